@@ -1,5 +1,5 @@
 """The compiler for guests in C, of Debian's packages: whether it is there, and its installation. c/build-all and
-tests/package use it."""
+tests/checks/package use it."""
 
 import os
 import shutil

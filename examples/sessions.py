@@ -1,5 +1,5 @@
 """Sessions of Debian's gdb-multiarch: whether it is there, its installation, and what it prints for each of its commands.
-examples/run-walk and tests/gdb use it."""
+examples/run-walk and tests/checks/gdb use it."""
 
 import os
 import re

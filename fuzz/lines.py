@@ -23,6 +23,12 @@ def listed(text):
     return None
 
 
+def sized(text):
+    """A name without `=`, and how many bytes it has, at most as many as the input may have; or None."""
+    name, *others = text.split("=")
+    return (name, int(others[0])) if len(others) == 1 and bounded(others[0], 1 << 26, 0) is not None else None
+
+
 BUDGET = ("--budget", lambda text: bounded(text, MOST_BUDGET))
 PLAN = ("--plan", listed)
 PLACE = partial(bounded, most=MOST_PLACE, least=0)
@@ -35,7 +41,7 @@ COMMANDS = {
     "run": (("--source", "--record", "--why", "--frames"), (BUDGET, PLAN, ("--lead", lambda text: bounded(text, MOST_LEAD)))),
     "list": (("--calls", "--stats"), (("--from", PLACE), ("--to", PLACE), ("--rank", lambda text: bounded(text, 255, 0)))),
     "draw": ((), (("--from", PLACE), ("--to", PLACE))),
-    "page": ((), (("--from", PLACE), ("--to", PLACE))),
+    "page": ((), (("--from", PLACE), ("--to", PLACE), ("--text", sized))),
     "why": (("--frames",), (("--at", PLACE),)),
 }
 
@@ -50,7 +56,23 @@ NUMBERS = ["0", "1", "2", "5", "300", "16777215", "16777216", "16777217", "65535
 NUMBERS += ["18446744073709551615", "0x5", "ten", "5 ", " 5", "1.0", "18446744073709551616", "18446744073709551617", "1,0", "\u0661"]
 LISTS = ["0", "0,0", "0,1", "1,0", "1", "00", "255", "256", "1,256", "0,", ",0", "0,,0", ",", "", " 0", "0 ", "0;1"]
 LISTS += ["0x0", "+1", "all", "18446744073709551616", "0,1,2,3,0,1,2,3"]
+TEXTS = ["a.c=5", "a.c=0", "b/a.c=67108864", "a.c=67108865", "=3", "a.c=", "a.c", "a=b.c=5", "a.c=5=", "a.c=+5", "a.c= 5", ""]
 WORDS = ["fly", "--fly", "", "one", "asm", "x", "--budge", "--sourc", "--source=yes", "--record=", "--from=1", "0"]
+
+
+def spelled(text):
+    """Bytes as a page spells them."""
+    return b"".join(bytes([byte]) if re.match(rb"[ $(-;A-Z_a-z]", bytes([byte])) else b"\\x%02x" % byte for byte in text)
+
+
+def sources(texts, behind):
+    """What a page has of sources, by their names and sizes, of the bytes that stand behind its record."""
+    told = b""
+    for name, size in texts:
+        text, behind = behind[:size], behind[size:]
+        told += b"\\file " + spelled(name.encode()) + b"\n" + b"\n".join(map(spelled, text.split(b"\n")))
+        told += b"" if text.endswith(b"\n") else b"\n"
+    return told
 
 
 # names of files, and words that are none
@@ -120,7 +142,7 @@ def meaning(words):
     while rest:
         word = rest.pop(0)
         name, equals, text = word.partition("=")
-        if name in seen or (word not in flags and name not in options):
+        if (name in seen and name != "--text") or (word not in flags and name not in options):
             return None
         seen.add(name)
         if name in options:
@@ -131,7 +153,7 @@ def meaning(words):
             value = options[name](text)
             if value is None:
                 return None
-            values[name] = value
+            values[name] = values.get(name, []) + [value] if name == "--text" else value
     if any(flags <= seen for flags in APART) or values.get("--to", MOST_PLACE) < values.get("--from", 0):
         return None
     return Meaning(command, seen & set(flags), values)
@@ -157,7 +179,7 @@ class Lines:
             if self.random.randrange(3) == 0:
                 words += self.option(name)
         if self.random.randrange(6) == 0:
-            options = ["--budget", "--plan", "--order", "--lead", "--at", "--to", "--rank"]
+            options = ["--budget", "--plan", "--order", "--lead", "--at", "--to", "--rank", "--text"]
             other = self.random.choice([*options, "--source", "--record", "--from", "--why", "--frames", "--calls", "--stats"])
             extra = self.option(other) if other in options else [other]
             extra = self.random.choice([extra, [self.random.choice(WORDS)]])
@@ -177,8 +199,9 @@ class Lines:
 
     def option(self, name):
         """An option with a value, in one word or in two, or with none."""
-        value = self.random.choice(NUMBERS if name in NUMBERED else LISTS)
+        values = NUMBERS if name in NUMBERED else TEXTS if name == "--text" else LISTS
+        value = self.random.choice(values)
         if self.random.randrange(3):
-            value = self.random.choice(NUMBERS[1:5] if name in NUMBERED else LISTS[:5])
+            value = self.random.choice(values[1:5] if name in NUMBERED else values[:5])
         forms = [[f"{name}={value}"], [name, value]]
         return self.random.choice(forms) if self.random.randrange(20) else [name]

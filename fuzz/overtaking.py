@@ -1,22 +1,27 @@
 #!/usr/bin/env python3
 """How many more outcomes there are if messages take their time: a model of the machine in which each message is on its way
-until it arrives (docs/OVERTAKING.md), over the searches of orders.py. Nothing of rvmc has it.
+until it arrives (docs/OVERTAKING.md), over the searches of model/orders.py. Nothing of rvmc has it.
 
 usage: fuzz/overtaking.py [--seed N] [--cases N] [SOURCE]
 
-It takes random guests as fuzz/run draws them for `explore`, finds all ends of each with messages that arrive at once and with
-messages on their way, and says of how many guests there are more. With SOURCE, an assembler source, it prints the ends that
-only messages on their way lead to.
+It takes random guests as fuzz/run draws them for `explore`, finds all outcomes of each with messages that arrive at once and
+with messages on their way, and says of how many guests there are more. An outcome is the text of an end here: ranks that are
+stuck while others run on aren't looked for. With SOURCE, an assembler source, it prints the outcomes that only messages on
+their way lead to.
 """
 
 import argparse
+import os
 import sys
 
-import assembler
-import guests
-import hub
-import orders
-import races
+sys.path.insert(0, f"{os.path.dirname(os.path.dirname(os.path.abspath(__file__)))}/model")
+sys.dont_write_bytecode = True
+
+import assembler  # noqa: E402
+import guests  # noqa: E402
+import hub  # noqa: E402
+import orders  # noqa: E402
+import races  # noqa: E402
 
 # states of a guest at most: beyond them it isn't counted
 MOST = 6_000
@@ -121,7 +126,7 @@ class Search(orders.Search):
 
 
 def both(image, plan):
-    """The texts of the ends of both machines, or None where one of the searches was given up."""
+    """The outcomes on both machines, or None where one of the searches was given up."""
     plan = plan or list(range(image.harts))
     searches = orders.Search(image, plan, False, MOST), Search(image, plan, MOST)
     found = [set(search.ends().values()) for search in searches]
@@ -129,8 +134,8 @@ def both(image, plan):
 
 
 def count(seed, cases):
-    """Says of how many guests there are more ends."""
-    searched = more = ends = new = lost = 0
+    """Says of how many guests there are more outcomes."""
+    searched = more = outcomes = new = lost = 0
     for case in range(cases):
         image, plan = races.Races(guests.Guests(f"{seed} {case}")).drawn()
         found = both(image, plan)
@@ -140,9 +145,9 @@ def count(seed, cases):
         searched += 1
         more += bool(there - here)
         lost += bool(here - there)
-        ends, new = ends + len(here), new + len(there - here)
-    print(f"overtaking: {searched} of {cases} guests searched: {ends} ends if messages arrive at once; {new} more, of {more}")
-    print(f"guests, if they take their time; {lost} guests lose one")
+        outcomes, new = outcomes + len(here), new + len(there - here)
+    print(f"overtaking: {searched} of {cases} guests searched: {outcomes} outcomes if messages arrive at once; {new} more,")
+    print(f"of {more} guests, if they take their time; {lost} guests lose one")
 
 
 def main():
@@ -161,7 +166,7 @@ def main():
         sys.exit(f"overtaking: more than {MOST} states")
     for text in sorted(found[1] - found[0]):
         print(text.decode(), end="")
-    print(f"{len(found[0])} ends if messages arrive at once, {len(found[1])} if they take their time")
+    print(f"{len(found[0])} outcomes if messages arrive at once, {len(found[1])} if they take their time")
     return 0
 
 

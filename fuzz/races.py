@@ -245,24 +245,28 @@ class Races:
         self.comms = [everybody] + [self.random.sample(everybody, 2) for _ in range(self.random.choice([0, 0, 1]))]
         messages = [self.message() for _ in range(self.random.choice([0, 1, 2, 2, 3, 3, 4]))]
         links = [self.random.sample(everybody, 2)] if self.chance(1, 3) or not messages else []
+        token, self.shape = self.chance(1, 3), self.random.choice(SHAPES)
+        self.tells, shows = self.chance(3 if links and token else 1, 4), self.chance(1, 2)
+        image = self.image(links, 64 if shows else 0, lambda rank, hart: self.things(rank, hart, messages, links, token))
+        plans = [None] if self.harts == 1 else [None, [0, 1], [1, 0], [0, 0, 1], [0, 1, 1], [1], [0]]
+        return image, self.random.choice(plans)
+
+    def image(self, links, shown, things_of):
+        """The image of a guest with these links, whose harts show so many bytes of what came in, by what each hart does."""
         lines = [f".ranks {self.ranks}", f".harts {self.harts}", f".memory {4096 * self.harts}"]
         lines += [".comm " + ", ".join(map(str, comm)) for comm in self.comms[1:]]
         lines += [f".link {source}, {dest}" for source, dest in links] + [DISPATCH]
-        token, self.shape = self.chance(1, 3), self.random.choice(SHAPES)
-        self.tells, shows = self.chance(3 if links and token else 1, 4), self.chance(1, 2)
         for number in range(2 * self.ranks):
             self.held = 0
             rank, hart = number >> 1, number & 1
-            things = [] if hart >= self.harts else self.things(rank, hart, messages, links, token)
-            lines += [f"code{number}:", *self.merged(things)]
-            lines += self.call(1, (INCOMING,), 64) if shows and hart < self.harts else []
+            lines += [f"code{number}:", *self.merged([] if hart >= self.harts else things_of(rank, hart))]
+            lines += self.call(1, (INCOMING,), shown) if shown and hart < self.harts else []
             lines += ["mv a0, s11", "li a7, 0", "ecall"]
         lines += [".data", f"room: .zero {ROOM}", ".balign 8", "codes:"]
         lines += [".dword " + ", ".join(f"code{number}" for number in range(2 * self.ranks))]
         image = assembler.assembled("\n".join(lines).encode() + b"\n")
         image.data = bytes(OUTGOING) + bytes(range(1, 1 + ROOM - OUTGOING)) + image.data[ROOM:]
-        plans = [None] if self.harts == 1 else [None, [0, 1], [1, 0], [0, 0, 1], [0, 1, 1], [1], [0]]
-        return image, self.random.choice(plans)
+        return image
 
     def things(self, rank, hart, messages, links, token):
         """What a hart does: its rank's part in each message and link, or where there is another hart what is drawn of it."""

@@ -1,5 +1,6 @@
 """What the programs of c/examples and c/programs are, and what each rank of them may print: the files `programs` and
-NAME.expected; and which programs c/course has. c/run-all, c/run-course, c/build-all and c/examples/by-mpi use it."""
+NAME.expected; and which programs c/course and c/schedules have. c/run-all, c/run-course, c/build-all and c/examples/by-mpi
+use it."""
 
 import os
 import re
@@ -7,6 +8,7 @@ import shlex
 
 FOLDER = os.path.dirname(os.path.abspath(__file__))
 COURSE = os.path.join(os.path.dirname(FOLDER), "course")
+SCHEDULES = os.path.join(os.path.dirname(FOLDER), "schedules")
 PROGRAMS = os.path.join(os.path.dirname(FOLDER), "programs")
 
 # the line that begins the part of a rank, with the code by which it ends where that isn't 0, and the one that begins what
@@ -17,15 +19,16 @@ HEAD = re.compile(r"rank ([0-7])(?: ends (\d+))?|why")
 class Source:
     """A source of a folder, which rvmc-cc makes an image of."""
 
-    def __init__(self, folder, name, options):
+    def __init__(self, folder, name, options, source=None):
         self.folder, self.name, self.options = folder, name, options
-        self.source = os.path.join(folder, name + ".c")
+        self.source = os.path.join(folder, (source or name) + ".c")
         self.image = name + ".image"
         self.made = os.path.join(folder, self.image)
 
     def command(self):
         """The words that build its image, at the top of the repository."""
-        return ["c/rvmc-cc", *self.options, "-o", self.image, f"c/{os.path.basename(self.folder)}/{self.name}.c"]
+        source = f"c/{os.path.basename(self.folder)}/{os.path.basename(self.source)}"
+        return ["c/rvmc-cc", *self.options, "-o", self.image, source]
 
 
 class Program(Source):
@@ -87,6 +90,11 @@ def lines_of(folder):
 def course():
     """The programs of c/course."""
     return [Source(COURSE, line[0], line[1:]) for line in lines_of(COURSE)]
+
+
+def schedules():
+    """The programs of c/schedules: a source may be built in several ways."""
+    return [Source(SCHEDULES, line[0], line[2:], line[1]) for line in lines_of(SCHEDULES)]
 
 
 def programs(names=()):

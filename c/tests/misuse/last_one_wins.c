@@ -10,7 +10,7 @@ int main(int argc, char **argv)
     MPI_Comm_rank(MPI_COMM_WORLD, &rank);
     number = rank;
     if (rank > 0) {
-        MPI_Send(&number, 1, MPI_INT, 0, 7, MPI_COMM_WORLD);
+        MPI_Send(&number, 1, MPI_INT, 0, 7, MPI_COMM_WORLD); /* B */
     } else {
         for (int i = 1; i < 3; i++) {
             MPI_Recv(&number, 1, MPI_INT, MPI_ANY_SOURCE, 7, MPI_COMM_WORLD, MPI_STATUS_IGNORE); /* A */

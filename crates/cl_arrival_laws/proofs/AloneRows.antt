@@ -4,7 +4,7 @@ use Rattle.std.specs.Prelude.{All, ℕ, ◌≡◌, ◌+◌, ◌%◌, ◌<◌, �
 use Rattle.std.proofs.Common.{refl, arith}
 use Rattle.std.proofs.lemmas.List.Elements.{All-nil, All-cons}
 use mathlib.Core.Logic.{inr}
-use Rattle.rv_image.specs.Image.{IsImage, IsLink, data_start}
+use Rattle.rv_image_types.specs.Image.{IsImage, IsLink, data_start}
 use Rattle.rv_decode.specs.Decoded.{decoded}
 use Rattle.rv_hart.specs.Effect.{gives}
 use Rattle.rv_hart.specs.Results.{imm_result}

@@ -8,7 +8,7 @@ use Rattle.std.proofs.lemmas.List.{map-append}
 use Rattle.std.proofs.lemmas.List.Elements.{filter-append, filter_map-append}
 use Rattle.std.proofs.lemmas.Option.{same_Some, slice_get_cases}
 use mathlib.Core.Logic.{inl, inr}
-use Rattle.rv_image.specs.declared.images.ImageParts.{ImageParts}
+use Rattle.rv_image_types.specs.declared.images.ImageParts.{ImageParts}
 use Rattle.cl_state.specs.Rank.{Rank, loaded}
 use Rattle.cl_rank.specs.Deeds.{Deed, RankMoves}
 use Rattle.cl_rank.specs.Alone.{IsAlone}

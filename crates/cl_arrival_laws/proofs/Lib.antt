@@ -12,3 +12,4 @@ pub mod Arrival
 pub mod Writes
 pub mod AloneRows
 pub mod Runs
+pub mod Below

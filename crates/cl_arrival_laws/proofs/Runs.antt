@@ -1,7 +1,7 @@
 -- What is reported arrived in a record's run has come.
 use Rattle.std.specs.Prelude.{IfOk, Result, Ok, Err}
-use Rattle.rv_image.specs.declared.images.ImageParts.{ImageParts}
-use Rattle.rv_image.specs.Image.{IsImage}
+use Rattle.rv_image_types.specs.declared.images.ImageParts.{ImageParts}
+use Rattle.rv_image_types.specs.Image.{IsImage}
 use Rattle.cl_record.specs.declared.records.Record.{Record}
 use Rattle.cl_record.specs.declared.records.RunFault.{RunFault}
 use Rattle.cl_record.specs.Records.{IsMergedRun}

@@ -1,8 +1,8 @@
 -- Ranks of images that load, as they go alone from there: what the laws of phases ask for can be met.
 use Rattle.std.specs.Prelude.{ℕ, ◌≡◌, zero, suc, ◌+◌, List, [], ◌∷◌, ◌++◌, replicate, flat_map, true, false}
-use Rattle.rv_image.specs.declared.images.ImageParts.{ImageParts}
-use Rattle.rv_image.specs.declared.images.ImageVersion.TheVariants.{One}
-use Rattle.rv_image.specs.Image.{IsImage}
+use Rattle.rv_image_types.specs.declared.images.ImageParts.{ImageParts}
+use Rattle.rv_image_types.specs.declared.images.ImageVersion.TheVariants.{One}
+use Rattle.rv_image_types.specs.Image.{IsImage}
 use Rattle.rv_memory.specs.Memory.{bytes_of}
 use Rattle.mp_types.specs.declared.replies.Reply.TheVariants as reply
 use Rattle.mp_types.specs.declared.requests.Request.TheVariants as request

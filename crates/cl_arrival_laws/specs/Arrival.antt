@@ -2,8 +2,8 @@
 -- 4.1, chapter 4.2).
 use Rattle.std.specs.Prelude.{ℕ, ◌+◌, ◌*◌, ◌<◌, ◌≤◌, List, [], ◌∷◌, ◌++◌, ◌≡◌, ◌⊎◌, ◌&&◌, map, slice_get, take, Some, Bool, not}
 use Rattle.std.specs.Prelude.{if◌then◌else◌, IsTrue, true, false}
-use Rattle.rv_image.specs.declared.images.ImageParts.{ImageParts}
-use Rattle.rv_image.specs.declared.images.Link.{Link}
+use Rattle.rv_image_types.specs.declared.images.ImageParts.{ImageParts}
+use Rattle.rv_image_types.specs.declared.images.Link.{Link}
 use Rattle.part_phase.specs.Phases.{receiving_at, sending_at}
 use Rattle.part_phase.specs.Sending.{all_freed}
 use Rattle.part_phase.specs.declared.receiving.RecvPhase.{RecvPhase}

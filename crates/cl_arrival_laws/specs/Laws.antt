@@ -1,9 +1,9 @@
 -- Laws of partitions over whole runs: what is taken from a box, and in which phase (MPI 4.1, chapter 4.2).
 use Rattle.std.specs.Prelude.{ℕ, ◌+◌, ◌<◌, List, [], ◌∷◌, ◌++◌, ◌≡◌, length, map, slice_get, Some}
 use Rattle.std.specs.List.{filter_map}
-use Rattle.rv_image.specs.declared.images.ImageParts.{ImageParts}
-use Rattle.rv_image.specs.declared.images.Link.{Link}
-use Rattle.rv_image.specs.Image.{IsImage}
+use Rattle.rv_image_types.specs.declared.images.ImageParts.{ImageParts}
+use Rattle.rv_image_types.specs.declared.images.Link.{Link}
+use Rattle.rv_image_types.specs.Image.{IsImage}
 use Rattle.part_phase.specs.Phases.{receiving_at}
 use Rattle.part_phase.specs.declared.receiving.RecvPhase.{RecvPhase}
 use Rattle.cl_state.specs.Rank.{Rank, loaded}

@@ -1,5 +1,5 @@
 -- What arrives in a record's run.
-use Rattle.rv_image.specs.declared.images.ImageParts.{ImageParts}
+use Rattle.rv_image_types.specs.declared.images.ImageParts.{ImageParts}
 use Rattle.cl_record.specs.declared.records.Record.{Record}
 use Rattle.cl_record.specs.Records.{IsMergedRun}
 use Rattle.cl_arrival_laws.specs.Arrival.{ArrivesInPhase}

@@ -7,8 +7,8 @@ use Rattle.std.proofs.lemmas.Nat.{mod_below}
 use Rattle.std.proofs.lemmas.Bool.{eqb-true}
 use Rattle.std.proofs.lemmas.Bool.Decides.{eqb_tells}
 use mathlib.Core.Logic.{inl, inr}
-use Rattle.rv_image.specs.declared.images.ImageVersion.{ImageVersion}
-use Rattle.rv_image.specs.declared.images.Link.{Link}
+use Rattle.rv_image_types.specs.declared.images.ImageVersion.{ImageVersion}
+use Rattle.rv_image_types.specs.declared.images.Link.{Link}
 use Rattle.part_phase.specs.declared.phases.Phase.{Phase}
 use Rattle.part_phase.specs.Phases.{sending_at}
 use Rattle.part_phase.specs.Receiving.{one_taken}
@@ -17,7 +17,7 @@ use Rattle.cl_state.specs.Moves.{Known}
 use Rattle.cl_state.proofs.Known.{known as known_of}
 use Rattle.cl_state.specs.declared.asking.Ask.{Ask}
 use Rattle.cl_state.specs.declared.asking.Ask.TheVariants as ask
-use Rattle.rv_image.specs.declared.images.ImageParts.{ImageParts}
+use Rattle.rv_image_types.specs.declared.images.ImageParts.{ImageParts}
 use Rattle.cl_state.specs.Rank.{Rank, loaded}
 use Rattle.cl_rank.specs.Deeds.{Act, Deed, RankMoves}
 use Rattle.cl_rank.specs.Alone.{IsAlone}

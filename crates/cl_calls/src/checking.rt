@@ -21,7 +21,7 @@ use crate::sites::Site;
 use mp_request::{Partitions, Requests, Transfer};
 use mp_types::Code;
 use part_phase::{Phases, are_parts, is_size};
-use rv_image::ImageVersion;
+use rv_image_types::ImageVersion;
 use rv_memory::RankMemory;
 
 /// How a rank stands when a call is checked.

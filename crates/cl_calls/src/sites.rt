@@ -8,7 +8,7 @@ mod copies;
 
 use crate::calls::{ANY, NO_RANK};
 use crate::needs::Peer;
-use rv_image::{ImageVersion, Links, Members};
+use rv_image_types::{ImageVersion, Links, Members};
 use std::marker::Model;
 
 /// All communicators of a rank's image, at most 8 of them; number 0 is all ranks in order.

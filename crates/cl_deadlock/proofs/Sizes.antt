@@ -1,10 +1,10 @@
 -- How many ranks and harts a state has that was reached from an image.
 use Rattle.std.specs.Prelude.{ℕ, ◌≡◌, ◌≤◌, length, slice_get, Some}
 use Rattle.std.proofs.Common.{arith}
-use Rattle.rv_image.specs.declared.images.ImageParts.{ImageParts}
+use Rattle.rv_image_types.specs.declared.images.ImageParts.{ImageParts}
 use Rattle.cl_state.specs.declared.state.RankState.{RankState}
 use Rattle.cl_state.specs.Room.{rank_of}
-use Rattle.cl_machine.specs.Cluster.{Cluster}
+use Rattle.cl_replay.specs.Below.{Cluster}
 use Rattle.cl_replay.specs.declared.states.ClusterState.{ClusterState}
 use Rattle.cl_deadlock_laws.proofs.Reached.{comes_reached, same_harts}
 use Rattle.cl_deadlock.specs.Why.{IsStateOf}

@@ -1,7 +1,7 @@
 -- A law of verdicts.
 use Rattle.std.specs.Prelude.{ℕ, ◌≡◌, List, Option}
-use Rattle.rv_image.specs.declared.images.ImageParts.{ImageParts}
-use Rattle.cl_machine.specs.Cluster.{Cluster}
+use Rattle.rv_image_types.specs.declared.images.ImageParts.{ImageParts}
+use Rattle.cl_replay.specs.Below.{Cluster}
 use Rattle.cl_replay.specs.declared.states.ClusterState.{ClusterState}
 use Rattle.cl_deadlock.specs.Why.{IsStateOf, IsDeadlockVerdict}
 

@@ -1,11 +1,11 @@
 -- Who is stuck in whichever cluster a state is.
 use Rattle.std.specs.Prelude.{ℕ, ◌<◌, ◌≡◌, List, Some, slice_get}
-use Rattle.rv_image.specs.declared.images.ImageParts.{ImageParts}
+use Rattle.rv_image_types.specs.declared.images.ImageParts.{ImageParts}
 use Rattle.cl_state.specs.Asked.{asked}
 use Rattle.cl_state.specs.TurnRoom.{carried}
 use Rattle.cl_state.specs.Room.{rank_of}
 use Rattle.cl_state.specs.declared.state.RankState.{RankState}
-use Rattle.cl_machine.specs.Cluster.{Cluster}
+use Rattle.cl_replay.specs.Below.{Cluster}
 use Rattle.cl_replay.specs.declared.states.ClusterState.{ClusterState}
 use Rattle.cl_replay.specs.States.{ClusterStandsFor}
 use Rattle.cl_deadlock_laws.specs.Stuck.{AreStuck, IsDeadlock, IsReachable, SomeWaits}

@@ -1,10 +1,10 @@
 -- What is told of deadlock: the most ranks of a state that wait on one another alone.
 use Rattle.std.specs.Prelude.{ℕ, ◌<◌, IsTrue, List, length, Option, Some, None}
 use Rattle.std.specs.List.Sorted.{IsStrictlyIncreasing}
-use Rattle.rv_image.specs.Image.{IsImage}
-use Rattle.rv_image.specs.declared.images.ImageParts.{ImageParts}
+use Rattle.rv_image_types.specs.Image.{IsImage}
+use Rattle.rv_image_types.specs.declared.images.ImageParts.{ImageParts}
 use Rattle.mp_wait_laws.specs.Waits.{OnlyOf}
-use Rattle.cl_machine.specs.Cluster.{Cluster}
+use Rattle.cl_replay.specs.Below.{Cluster}
 use Rattle.cl_replay.specs.declared.states.ClusterState.{ClusterState}
 use Rattle.cl_replay.specs.States.{ClusterStandsFor}
 use Rattle.cl_deadlock_laws.specs.Stuck.{AreStuck, IsDeadlock, IsReachable, SomeWaits, is_among}

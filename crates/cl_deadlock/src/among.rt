@@ -12,7 +12,7 @@ ghost use Rattle.cl_deadlock_laws.specs.Stuck.{is_among as is_among_of, is_membe
 use cl_calls::Site;
 use mp_hub::HubState;
 use mp_match::{Post, Selection};
-use rv_image::Link;
+use rv_image_types::Link;
 
 /// Whether the rank is one of these.
 pub(crate) fn is_among(among: &[u8], rank: u8) -> bool

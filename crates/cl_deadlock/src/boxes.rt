@@ -2,7 +2,7 @@
 
 ghost use Rattle.std.specs.Prelude.{◌≡◌, ◌↔◌, Some, false, true};
 ghost use Rattle.part_box.specs.declared.settled.Settled.{Settled as SettledBox};
-ghost use Rattle.cl_machine.specs.Boxes.{box_number};
+ghost use Rattle.cl_replay.specs.Below.{box_number};
 ghost use Rattle.cl_replay.specs.Boxes.{settled_at};
 
 use part_box::Settled;

@@ -1,7 +1,7 @@
 //! Harts that are stopped, or wait on what the ranks of a list alone could bring.
 
 ghost use Rattle.std.specs.Prelude.{◌≡◌, ◌↔◌, ◌<◌, ◌⊎◌, IfOk, OnErr, Some, false, true, vec_len};
-ghost use Rattle.rv_image.specs.declared.images.ImageParts.{ImageParts};
+ghost use Rattle.rv_image_types.specs.declared.images.ImageParts.{ImageParts};
 ghost use Rattle.part_box.specs.declared.settled.Settled.{Settled as SettledBox};
 ghost use Rattle.mp_transfers.specs.Inits.{is_receiver};
 ghost use Rattle.mp_wait_laws.specs.Waits.{OnlyOf, sends_over};
@@ -9,8 +9,8 @@ ghost use Rattle.cl_state.specs.Asked.{asked};
 ghost use Rattle.cl_state.specs.TurnRoom.{carried};
 ghost use Rattle.cl_state.specs.Room.{rank_of};
 ghost use Rattle.cl_state_laws.specs.Vain.{IsStopped, IsWaiting, mode_of, waits_on as waits_on_of};
-ghost use Rattle.cl_machine.specs.Boxes.{box_number};
-ghost use Rattle.cl_machine.specs.Cluster.{Cluster};
+ghost use Rattle.cl_replay.specs.Below.{box_number};
+ghost use Rattle.cl_replay.specs.Below.{Cluster};
 ghost use Rattle.cl_replay.specs.Boxes.{settled_at};
 ghost use Rattle.cl_replay.specs.States.{ClusterStandsFor};
 ghost use Rattle.cl_deadlock_laws.specs.Stuck.{AsksInVain, IsStuckHart, is_among};

@@ -2,11 +2,11 @@
 
 ghost use Rattle.std.specs.Prelude.{◌≡◌, ◌↔◌, ℕ, IfOk, IsTrue, Some, slice_get, true};
 ghost use Rattle.std.specs.Option.{option_map};
-ghost use Rattle.rv_image.specs.declared.images.ImageParts.{ImageParts};
+ghost use Rattle.rv_image_types.specs.declared.images.ImageParts.{ImageParts};
 ghost use Rattle.cl_state.specs.Rank.{Rank};
 ghost use Rattle.cl_state.specs.Room.{rank_of};
 ghost use Rattle.cl_state_laws.specs.Vain.{IsWaiting, mode_of};
-ghost use Rattle.cl_machine.specs.Cluster.{Cluster};
+ghost use Rattle.cl_replay.specs.Below.{Cluster};
 ghost use Rattle.cl_replay.specs.States.{ClusterStandsFor};
 ghost use Rattle.cl_deadlock_laws.specs.Stuck.{SomeWaits};
 ghost use Rattle.cl_deadlock.specs.Why.{IsDeadlockVerdict};

@@ -7,7 +7,7 @@ use Rattle.std.proofs.lemmas.Bool.{cases_eq}
 use Rattle.std.proofs.lemmas.List.{length-append, length-map, length-set}
 use Rattle.std.proofs.lemmas.Option.{same_Some}
 use Rattle.rv_hart.specs.State.{start_state}
-use Rattle.rv_image.specs.declared.images.ImageParts.{ImageParts}
+use Rattle.rv_image_types.specs.declared.images.ImageParts.{ImageParts}
 use Rattle.cl_journal.specs.declared.entries.Entry.{Entry}
 use Rattle.cl_rank.specs.Deeds.{Deed, RankMoves}
 use Rattle.cl_rank.specs.Alone.{IsAlone}

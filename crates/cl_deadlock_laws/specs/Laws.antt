@@ -1,6 +1,6 @@
 -- The laws of ranks that are stuck.
 use Rattle.std.specs.Prelude.{ℕ, ◌<◌, ◌≡◌, ◌⊎◌, IsTrue, List, ◌++◌, length, Some, slice_get}
-use Rattle.rv_image.specs.declared.images.ImageParts.{ImageParts}
+use Rattle.rv_image_types.specs.declared.images.ImageParts.{ImageParts}
 use Rattle.mp_wait_laws.specs.Waits.{OnlyOf}
 use Rattle.cl_state.specs.Rank.{Rank}
 use Rattle.cl_state_laws.specs.Vain.{IsStopped, mode_of}

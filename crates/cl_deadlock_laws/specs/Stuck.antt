@@ -2,7 +2,7 @@
 -- deadlock: ranks whom no run of the machine lets go on.
 use Rattle.std.specs.Prelude.{ℕ, ◌<◌, ◌≡◌, ◌==◌, ◌⊎◌, Bool, IsTrue, List, length, Some, slice_get, is_some}
 use Rattle.std.specs.List.{list_any}
-use Rattle.rv_image.specs.declared.images.ImageParts.{ImageParts}
+use Rattle.rv_image_types.specs.declared.images.ImageParts.{ImageParts}
 use Rattle.mp_transfers.specs.Inits.{is_receiver}
 use Rattle.mp_wait_laws.specs.Waits.{OnlyOf, WaitsFor, sends_over}
 use Rattle.cl_calls.specs.declared.sites.Site.{Site}

@@ -5,7 +5,7 @@ use Rattle.std.proofs.Common.{refl, sym, subst, ap, ◌∙◌, ◌^◌, arith, p
 use Rattle.std.proofs.Math.Nat.{mul-le-mul_left}
 use Rattle.std.proofs.lemmas.List.{length-append}
 use Rattle.std.proofs.lemmas.Option.{same_Some}
-use Rattle.rv_image.specs.declared.images.ImageParts.{ImageParts}
+use Rattle.rv_image_types.specs.declared.images.ImageParts.{ImageParts}
 use Rattle.cl_machine.specs.Cluster.{Cluster, IsRun, loaded_cluster}
 use Rattle.cl_machine.specs.declared.steps.Step.{Step}
 use Rattle.cl_replay.specs.declared.states.ClusterState.{ClusterState}

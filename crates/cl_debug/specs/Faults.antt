@@ -1,12 +1,12 @@
 -- What a debugger's refusals mean.
 use Rattle.std.specs.Prelude.{ℕ, ◌≡◌, ◌<◌, ◌⊎◌, List, length, slice_get, Some}
-use Rattle.rv_image.specs.declared.images.ImageParts.{ImageParts}
+use Rattle.rv_image_types.specs.declared.images.ImageParts.{ImageParts}
 use Rattle.cl_state.specs.Rank.{Rank}
 use Rattle.cl_machine.specs.Cluster.{Cluster}
 use Rattle.cl_machine.specs.declared.steps.Step.{Step}
 use Rattle.cl_replay.specs.InnerReplaying.{BreaksAt}
 use Rattle.cl_replay.specs.Steps.{KindTakesMemory}
-use Rattle.cl_rank.specs.Memory.{LacksPages}
+use Rattle.cl_replay.specs.Below.{LacksPages}
 use Rattle.cl_debug.specs.Debugging.{Debugging}
 use Rattle.cl_debug.specs.Places.{IsAt}
 use Rattle.cl_debug.specs.declared.faults.DebugFault.{DebugFault}

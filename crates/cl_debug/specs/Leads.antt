@@ -1,6 +1,6 @@
 -- Where steps lead from one place to another, and what a debugger keeps on its way.
 use Rattle.std.specs.Prelude.{ℕ, ◌≡◌, ◌<◌, ◌≤◌, ◌*◌, List, length, slice_get, Some}
-use Rattle.rv_image.specs.declared.images.ImageParts.{ImageParts}
+use Rattle.rv_image_types.specs.declared.images.ImageParts.{ImageParts}
 use Rattle.cl_machine.specs.declared.steps.Step.{Step}
 use Rattle.cl_replay.specs.declared.states.ClusterState.{ClusterState}
 use Rattle.cl_replay.specs.Kept.{Snapshot, snapshot}

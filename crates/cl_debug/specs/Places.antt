@@ -1,6 +1,6 @@
 -- The places of a record, and where a run through it stops.
 use Rattle.std.specs.Prelude.{ℕ, ◌≡◌, ◌<◌, ◌≤◌, ◌⊎◌, List, length, slice_get, take, Some, Contains}
-use Rattle.rv_image.specs.declared.images.ImageParts.{ImageParts}
+use Rattle.rv_image_types.specs.declared.images.ImageParts.{ImageParts}
 use Rattle.rv_hart.specs.State.{State}
 use Rattle.cl_state.specs.Rank.{Rank}
 use Rattle.cl_machine.specs.Cluster.{Cluster, IsRun, loaded_cluster}

@@ -1,8 +1,8 @@
 -- What a debugger shows of the cluster at its place.
 use Rattle.std.specs.Prelude.{ℕ, ◌≡◌, ◌≢◌, List, slice_get, Some}
 use Rattle.rv_hart.specs.State.{State}
-use Rattle.rv_image.specs.declared.images.ImageParts.{ImageParts}
-use Rattle.rv_image.specs.declared.images.Symbol.{Symbol}
+use Rattle.rv_image_types.specs.declared.images.ImageParts.{ImageParts}
+use Rattle.rv_image_types.specs.declared.images.Symbol.{Symbol}
 use Rattle.rv_memory.specs.Access.{IsReadable}
 use Rattle.rv_memory.specs.Memory.{bytes_at}
 use Rattle.cl_state.specs.Rank.{Rank}

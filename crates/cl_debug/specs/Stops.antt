@@ -1,6 +1,6 @@
 -- What is found of the places of a record on the way.
 use Rattle.std.specs.Prelude.{ℕ, List}
-use Rattle.rv_image.specs.declared.images.ImageParts.{ImageParts}
+use Rattle.rv_image_types.specs.declared.images.ImageParts.{ImageParts}
 use Rattle.cl_machine.specs.declared.steps.Step.{Step}
 use Rattle.cl_replay.specs.declared.states.ClusterState.{ClusterState}
 use Rattle.cl_replay.specs.Replaying.{IsReached}

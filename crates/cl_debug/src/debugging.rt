@@ -13,7 +13,7 @@ use crate::faults::DebugFault;
 use crate::spacing::spacing_for;
 use crate::stepping::{advance, kept_and_first};
 use cl_replay::{ClusterState, KeptCluster, Step};
-use rv_image::Image;
+use rv_image_types::Image;
 use std::alloc::Global;
 use std::marker::Model;
 

@@ -1,7 +1,7 @@
 //! Steps, done one after another.
 
 ghost use Rattle.std.specs.Prelude.{◌≡◌, ◌<◌, ◌≤◌, [], length, IfErr, IfOk, OnOk};
-ghost use Rattle.rv_image.specs.declared.images.ImageParts.{ImageParts};
+ghost use Rattle.rv_image_types.specs.declared.images.ImageParts.{ImageParts};
 ghost use Rattle.cl_machine.specs.Cluster.{loaded_cluster};
 ghost use Rattle.cl_replay.specs.Replaying.{IsReached};
 ghost use Rattle.cl_replay.specs.Replays.{IsRunUpTo};
@@ -12,7 +12,7 @@ ghost use Rattle.cl_debug.specs.Leads.{AreKept, LeadFaultHolds};
 
 use crate::faults::DebugFault;
 use cl_replay::{ClusterState, KeptCluster, Step, WalkFault};
-use rv_image::Image;
+use rv_image_types::Image;
 use std::alloc::Global;
 
 /// Does the steps from one place to another. After a refusal the state may be anything.

@@ -2,8 +2,8 @@
 use Rattle.std.specs.Prelude.{ℕ, ◌≡◌, List, length, take, Option, None, Some}
 use Rattle.std.proofs.Common.{◌∙◌, subst}
 use Rattle.std.proofs.Math.Seq.{take-length}
-use Rattle.rv_image.specs.Image.{IsImage}
-use Rattle.rv_image.specs.declared.images.ImageParts.{ImageParts}
+use Rattle.rv_image_types.specs.Image.{IsImage}
+use Rattle.rv_image_types.specs.declared.images.ImageParts.{ImageParts}
 use Rattle.cl_deadlock.specs.Why.{IsDeadlockVerdict, IsFound, IsNoneFound, IsVerdictOf}
 use Rattle.cl_ending.specs.DeadEnds.{HasAll, IsNotStuckAt, IsStuckAt}
 use Rattle.cl_ending.specs.Judged.{IsVerdictAt}

@@ -3,8 +3,8 @@ use Rattle.std.specs.Prelude.{ℕ, ◌≡◌, ◌≤◌, Bool, List, slice_get, 
 use Rattle.std.proofs.Common.{refl, ap, sym, ◌∙◌, subst, arith}
 use Rattle.std.proofs.lemmas.Option.{same_Some}
 use Rattle.std.proofs.lemmas.Result.{IfErr-at_err}
-use Rattle.rv_image.specs.declared.images.ImageParts.{ImageParts}
-use Rattle.cl_arrival_laws.specs.Runs.{IsArrivedRun}
+use Rattle.rv_image_types.specs.declared.images.ImageParts.{ImageParts}
+use Rattle.cl_run.specs.Below.{IsArrivedRun}
 use Rattle.cl_ending.specs.DeadEnds.{IsFreeEnd, IsStuckAt}
 use Rattle.cl_ending.specs.Judged.{IsJudged}
 use Rattle.cl_record.specs.Records.{IsMergedRun}

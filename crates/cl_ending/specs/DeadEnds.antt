@@ -1,6 +1,6 @@
 -- Runs that ended in a deadlock.
 use Rattle.std.specs.Prelude.{ℕ, ◌≡◌, ◌≢◌, ◌⊎◌, IsTrue, List, Some, slice_get}
-use Rattle.rv_image.specs.declared.images.ImageParts.{ImageParts}
+use Rattle.rv_image_types.specs.declared.images.ImageParts.{ImageParts}
 use Rattle.cl_deadlock.specs.Why.{IsFound}
 use Rattle.cl_deadlock_laws.specs.Stuck.{is_among}
 use Rattle.cl_machine.specs.Cluster.{Cluster, IsRun, loaded_cluster}

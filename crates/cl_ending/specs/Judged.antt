@@ -1,7 +1,7 @@
 -- What a run on one thread leaves, judged, and the verdict on what any run leaves.
 use Rattle.std.specs.Prelude.{ℕ, ◌≡◌, List, Option, Some, false, slice_get, true}
-use Rattle.rv_image.specs.declared.images.ImageParts.{ImageParts}
-use Rattle.cl_arrival_laws.specs.Runs.{IsArrivedRun}
+use Rattle.rv_image_types.specs.declared.images.ImageParts.{ImageParts}
+use Rattle.cl_run.specs.Below.{IsArrivedRun}
 use Rattle.cl_deadlock.specs.Why.{IsVerdictOf}
 use Rattle.cl_machine.specs.Cluster.{Cluster, IsRun, loaded_cluster}
 use Rattle.cl_machine.specs.Merge.{IsMerge}

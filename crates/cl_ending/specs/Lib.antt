@@ -1,2 +1,3 @@
 pub mod DeadEnds
 pub mod Judged
+pub mod Below

@@ -15,7 +15,7 @@ use cl_merge::merge;
 use cl_rank::Stop;
 use cl_record::Record;
 use cl_replay::{ClusterState, ReplayFault, Step, replay};
-use rv_image::Image;
+use rv_image_types::Image;
 use std::alloc::{AllocError, Global};
 
 /// Whether the rank is one of these.

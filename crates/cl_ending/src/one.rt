@@ -1,7 +1,7 @@
 //! A run on one thread that ends where nobody can go on.
 
 ghost use Rattle.std.specs.Prelude.{◌≡◌, ◌↔◌, ◌⊎◌, ◌≤◌, Err, IfErr, IfOk, OnOk, false, length, true};
-ghost use Rattle.cl_arrival_laws.specs.Runs.{IsArrivedRun};
+ghost use Rattle.cl_run.specs.Below.{IsArrivedRun};
 ghost use Rattle.cl_ending.specs.DeadEnds.{IsFreeEnd, IsStuckAt};
 ghost use Rattle.cl_ending.specs.Judged.{IsJudged};
 ghost use Rattle.cl_record.specs.Plans.{ArePlans};
@@ -12,7 +12,7 @@ ghost use Rattle.cl_run.specs.Runs.{IsOneRun};
 use crate::judging::{is_ended_stuck, is_stuck};
 use cl_record::{Plan, Record, RunFault};
 use cl_run::{Ended, run_one, run_one_until_quiet};
-use rv_image::Image;
+use rv_image_types::Image;
 use std::alloc::Global;
 
 /// What a run leaves, and whether it was ended at a deadlock.

@@ -1,7 +1,7 @@
 //! A run with a thread for each rank that ends where nobody can go on.
 
 ghost use Rattle.std.specs.Prelude.{◌≡◌, ◌↔◌, ◌≤◌, Err, IfErr, IfOk, false, length, true};
-ghost use Rattle.cl_arrival_laws.specs.Runs.{IsArrivedRun};
+ghost use Rattle.cl_run.specs.Below.{IsArrivedRun};
 ghost use Rattle.cl_ending.specs.DeadEnds.{IsFreeEnd, IsNotStuckAt, IsStuckAt};
 ghost use Rattle.cl_ending.specs.declared.threads.Outcome.TheVariants.{Planned, Stuck as IsStuck, Told};
 ghost use Rattle.cl_record.specs.Plans.{HasPlans};
@@ -13,7 +13,7 @@ ghost use Rattle.cl_threads.specs.Runs.{IsThreadRun};
 use crate::judging::{is_ended_stuck, is_stuck};
 use cl_record::{Plan, Record, RunFault};
 use cl_threads::{Ended, Gate, run_threads_until_told};
-use rv_image::Image;
+use rv_image_types::Image;
 use std::alloc::{AllocError, Global};
 use std::sync::Wait;
 use std::thread::Threads;

@@ -3,7 +3,7 @@ use Rattle.std.specs.Prelude.{ℕ, suc, ◌+◌, ◌/◌, ◌%◌, ◌<◌, ◌�
 use Rattle.std.proofs.Common.{refl, sym, ap, ◌∙◌, subst, arith, inl, inr}
 use Rattle.std.proofs.lemmas.Bool.{cases_Bool, cases_eq}
 use Rattle.std.proofs.lemmas.Option.{slice_get_within}
-use Rattle.rv_image.specs.declared.images.ImageParts.{ImageParts}
+use Rattle.rv_image_types.specs.declared.images.ImageParts.{ImageParts}
 use Rattle.part_box.specs.declared.settled.Settled.{Settled}
 use Rattle.mp_hub.specs.Hub.{HubView}
 use Rattle.mp_alike_laws.specs.Renaming.{Renaming}
@@ -20,7 +20,7 @@ use Rattle.cl_replay.proofs.Boxed.{shown_of_box}
 use Rattle.cl_order_laws.specs.Alike.{AlikeBoxes, AlikeRanks, AreEach, IsFull, hub_of}
 use Rattle.cl_order_laws.specs.Closed.{Node}
 use Rattle.cl_order_laws.specs.Laws.{AreAlike}
-use Rattle.cl_deadlock_laws.proofs.Reached.{comes_reached, same_site}
+use Rattle.cl_contest_laws.proofs.Below.{comes_reached, same_site}
 use Rattle.cl_moves.specs.Standing.{StandsAt}
 use Rattle.cl_moves.specs.declared.standing.Standing.{Standing}
 use Rattle.cl_explore.specs.Kept.{IsAlikeKept, IsFound, KeptStandsAt}

@@ -1,13 +1,14 @@
 -- What nodes cover, and lists of them that grow.
-use Rattle.std.specs.Prelude.{ℕ, zero, suc, ◌+◌, ◌%◌, ◌<◌, ◌≡◌, List, [], ◌∷◌, ◌++◌, length, option_map, slice_get, slice_index, Option, Some, None, Bool, true, false}
+use Rattle.std.specs.Prelude.{ℕ, zero, suc, ◌+◌, ◌%◌, ◌<◌, ◌≡◌, List, [], ◌∷◌, ◌++◌, length, option_map, slice_get, slice_index, Option, Some, None}
 use Rattle.std.proofs.Common.{refl, sym, ap, ◌∙◌, subst, arith, inl, inr}
 use Rattle.std.proofs.Math.Nat.{mod-add-mod}
 use Rattle.std.proofs.lemmas.Option.{same_Some, slice_get-map, slice_get_within}
 use Rattle.std.proofs.lemmas.List.{length-append}
-use Rattle.rv_image.specs.declared.images.ImageParts.{ImageParts}
+use Rattle.rv_image_types.specs.declared.images.ImageParts.{ImageParts}
 use Rattle.mp_alike_laws.specs.Renaming.{no_renaming}
 use Rattle.cl_record.specs.Plans.{in_slot}
 use Rattle.cl_machine.specs.declared.steps.Step.{Step}
+use Rattle.cl_machine.specs.Cluster.{Cluster}
 use Rattle.cl_replay.specs.Kept.{RanksAt, ranks_at}
 use Rattle.cl_state.specs.Rank.{Rank}
 use Rattle.cl_state.specs.Room.{rank_of}
@@ -24,7 +25,12 @@ use Rattle.cl_moves.proofs.Surely.{alike_by, sure_ahead, sure_more, went_covers}
 use Rattle.cl_moves.specs.Standing.{IsWay, StandsAt, by_order, node_of}
 use Rattle.cl_moves.specs.declared.standing.Standing.{Standing}
 use Rattle.cl_explore.specs.Kept.{AreSamePlaces, HaveStayedSince, IsBefore, IsKeptAs, IsKeptOf, IsLed, KeptStandsAt}
-use Rattle.cl_outcome_laws.specs.Graphs.{AreAlikeNodes}
+use Rattle.cl_contest_laws.specs.Below.{AreAlikeNodes}
+use Rattle.cl_contests.specs.Below.{Contest}
+use Rattle.cl_contests.specs.Below.{SettlesFirst}
+use Rattle.cl_contest_laws.specs.Lists.{IsOneOf}
+use Rattle.cl_contests.specs.Going.{IsSettledThere, LeadsOn}
+use Rattle.cl_explore.specs.How.{How, IsUncontested, at_once, by_contest, plainly}
 use Rattle.cl_explore.specs.Covering.{AreJoined, AreLeads, AreNodes, Grows, HasLead, IsClosedAt, IsClosedFrom, IsReachedFrom, IsReachedTurn, LeadsGrow, Reaches}
 use Rattle.cl_explore.specs.Searching.{Arrives, GoesOn, IsFoundIn}
 use Rattle.cl_explore.specs.declared.kept.KeptNode.{KeptNode}
@@ -102,24 +108,46 @@ settles_more plans most nodes more grows (suc n) here settles = elim settles [
   ]
 ]
 
-pub reaches_more : (sure : Bool) (order : List ℕ) (nodes more : List Node) (here : Node) → Grows nodes more
-    → Reaches sure order nodes here → Reaches sure order more here
-reaches_more true order nodes more here grows settled =
+-- the same where turns go first that nobody contests
+settled_into : (contest : Contest) (Is Then : Cluster → Type 0) → ((c : Cluster) → Is c → Then c) → (n : ℕ) (c : Cluster)
+    → SettlesFirst contest Is n c → SettlesFirst contest Then n c
+settled_into contest Is Then into zero c settled =
+    (settled.0, ((settled.1).0, into (settled.1).0 (settled.1).1, (settled.1).2))
+settled_into contest Is Then into (suc n) c settled = (
+  settled.0,
+  elim settled.1 [
+    | inl here ↦ inl (here.0, into here.0 here.1, here.2)
+    | inr on ↦ inr (on.0, on.1, on.2, on.3, λ new turn. settled_into contest Is Then into n new (on.4 new turn))
+  ],
+)
+
+one_of_more : (nodes more : List Node) → Grows nodes more → (c : Cluster) → IsOneOf nodes c → IsOneOf more c
+one_of_more nodes more grows c is = (is.0, is.1, grows is.0 is.1 is.2, is.3)
+
+pub reaches_more : (how : How) (order : List ℕ) (nodes more : List Node) (here : Node) → Grows nodes more
+    → Reaches how order nodes here → Reaches how order more here
+reaches_more at_once order nodes more here grows settled =
     (settled.0, settles_more (by_order order) most_posts nodes more grows settled.0 here settled.1)
-reaches_more false order nodes more here grows cov = covered_more (by_order order) nodes more here grows cov
+reaches_more plainly order nodes more here grows cov = covered_more (by_order order) nodes more here grows cov
+reaches_more (by_contest contest) order nodes more here grows settled = (
+  settled.0,
+  settled_into contest (IsOneOf nodes) (IsOneOf more) (one_of_more nodes more grows) settled.0 here.cluster settled.1,
+)
 
-pub reaches_covered : (sure : Bool) (order : List ℕ) (nodes : List Node) (here : Node)
-    → IsCovered (by_order order) nodes here → Reaches sure order nodes here
-reaches_covered true order nodes here cov = (0, cov)
-reaches_covered false order nodes here cov = cov
+-- one that is covered is reached, and so is one that is covered by one that is reached, where no turns go first
+pub reaches_covered : (how : How) (order : List ℕ) (nodes : List Node) (here : Node) → IsUncontested how
+    → IsCovered (by_order order) nodes here → Reaches how order nodes here
+reaches_covered at_once order nodes here none cov = (0, cov)
+reaches_covered plainly order nodes here none cov = cov
+reaches_covered (by_contest contest) order nodes here none cov = absurd none
 
--- one that is covered by one that is reached
-pub reaches_on : (sure : Bool) (order : List ℕ) (nodes : List Node) (here there : Node)
-    → IsCovered (by_order order) (there ∷ []) here → Reaches sure order nodes there → Reaches sure order nodes here
-reaches_on true order nodes here there cov settled = (suc settled.0, inr (inl (there, cov, settled.1)))
-reaches_on false order nodes here there cov next =
+pub reaches_on : (how : How) (order : List ℕ) (nodes : List Node) (here there : Node) → IsUncontested how
+    → IsCovered (by_order order) (there ∷ []) here → Reaches how order nodes there → Reaches how order nodes here
+reaches_on at_once order nodes here there none cov settled = (suc settled.0, inr (inl (there, cov, settled.1)))
+reaches_on plainly order nodes here there none cov next =
     covered_on (by_order order) (there ∷ []) nodes here cov
     (subst (λ (n : Node). IsCovered (by_order order) nodes n) (only_one there cov.node cov.index cov.there) next)
+reaches_on (by_contest contest) order nodes here there none cov next = absurd none
 
 -- what nodes reach is reached by each list that has them
 pub among_one : (nodes : List Node) (i : ℕ) (node : Node) → slice_get nodes i ≡ Some node → (j : ℕ) (x : Node)
@@ -146,22 +174,27 @@ module _ (plans : Plans) (nodes more : List Node)
     ]
   ]
 
-pub reaches_in : (sure : Bool) (order : List ℕ) (nodes : List Node) (i : ℕ) (node here : Node)
-    → slice_get nodes i ≡ Some node → Reaches sure order (node ∷ []) here → Reaches sure order nodes here
-reaches_in true order nodes i node here at settled =
+pub reaches_in : (how : How) (order : List ℕ) (nodes : List Node) (i : ℕ) (node here : Node)
+    → slice_get nodes i ≡ Some node → Reaches how order (node ∷ []) here → Reaches how order nodes here
+reaches_in at_once order nodes i node here at settled =
     (settled.0, settles_in (by_order order) (node ∷ []) nodes (among_one nodes i node at) most_posts settled.0 here settled.1)
-reaches_in false order nodes i node here at cov =
+reaches_in plainly order nodes i node here at cov =
     covered_in (by_order order) (node ∷ []) nodes (among_one nodes i node at) here cov
+reaches_in (by_contest contest) order nodes i node here at settled = (
+  settled.0,
+  settled_into contest (IsOneOf (node ∷ [])) (IsOneOf nodes)
+      (λ c is. let k = among_one nodes i node at is.0 is.1 is.2 in (k.0, is.1, k.1, is.3)) settled.0 here.cluster settled.1,
+)
 
 -- ---- moves that led somewhere
 
 pub lead_more : (leads more : List Lead) (i j : ℕ) → LeadsGrow leads more → HasLead leads i j → HasLead more i j
 lead_more leads more i j grows led = (led.0, led.1, grows led.0 led.1 led.2, led.3, led.4)
 
-pub from_more : (sure : Bool) (order : List ℕ) (leads longer : List Lead) (i : ℕ) (nodes more : List Node) (here : Node)
-    → Grows nodes more → LeadsGrow leads longer → IsReachedFrom sure order leads i nodes here
-    → IsReachedFrom sure order longer i more here
-from_more sure order leads longer i nodes more here grows on reached = record {
+pub from_more : (how : How) (order : List ℕ) (leads longer : List Lead) (i : ℕ) (nodes more : List Node) (here : Node)
+    → Grows nodes more → LeadsGrow leads longer → IsReachedFrom how order leads i nodes here
+    → IsReachedFrom how order longer i more here
+from_more how order leads longer i nodes more here grows on reached = record {
   number = reached.number;
   next = reached.next;
   led = lead_more leads longer i reached.number on reached.led;
@@ -169,29 +202,29 @@ from_more sure order leads longer i nodes more here grows on reached = record {
   reaches = reached.reaches;
 }
 
-pub turn_more : (sure : Bool) (order : List ℕ) (leads longer : List Lead) (i : ℕ) (nodes more : List Node) (node : Node)
-    (e : Step) → Grows nodes more → LeadsGrow leads longer → IsReachedTurn sure order leads i nodes node e
-    → IsReachedTurn sure order longer i more node e
-turn_more sure order leads longer i nodes more node e grows on reached = λ new is.
-    from_more sure order leads longer i nodes more (node_of new (one_more node.had e.rank)) grows on (reached new is)
+pub turn_more : (how : How) (order : List ℕ) (leads longer : List Lead) (i : ℕ) (nodes more : List Node) (node : Node)
+    (e : Step) → Grows nodes more → LeadsGrow leads longer → IsReachedTurn how order leads i nodes node e
+    → IsReachedTurn how order longer i more node e
+turn_more how order leads longer i nodes more node e grows on reached = λ new is.
+    from_more how order leads longer i nodes more (node_of new (one_more node.had e.rank)) grows on (reached new is)
 
-pub closed_more : (sure : Bool) (order : List ℕ) (leads longer : List Lead) (i : ℕ) (nodes more : List Node) (node : Node)
-    (r : ℕ) → Grows nodes more → LeadsGrow leads longer → IsClosedFrom sure order leads i nodes node r
-    → IsClosedFrom sure order longer i more node r
-closed_more sure order leads longer i nodes more node r grows on closed = λ rank at. elim (closed rank at) [
+pub closed_more : (how : How) (order : List ℕ) (leads longer : List Lead) (i : ℕ) (nodes more : List Node) (node : Node)
+    (r : ℕ) → Grows nodes more → LeadsGrow leads longer → IsClosedFrom how order leads i nodes node r
+    → IsClosedFrom how order longer i more node r
+closed_more how order leads longer i nodes more node r grows on closed = λ rank at. elim (closed rank at) [
   | inl done ↦ inl done
   | inr reached ↦ inr (λ e new is hart turn.
-      from_more sure order leads longer i nodes more (node_of new (one_more node.had r)) grows on (reached e new is hart turn))
+      from_more how order leads longer i nodes more (node_of new (one_more node.had r)) grows on (reached e new is hart turn))
 ]
 
 -- a node that is closed so is closed over all nodes
-pub closed_over : (sure : Bool) (order : List ℕ) (leads : List Lead) (i : ℕ) (nodes : List Node) (node : Node) (r : ℕ)
-    → IsClosedFrom sure order leads i nodes node r → IsClosedAt sure order nodes node r
-closed_over sure order leads i nodes node r closed = λ rank at. elim (closed rank at) [
+pub closed_over : (how : How) (order : List ℕ) (leads : List Lead) (i : ℕ) (nodes : List Node) (node : Node) (r : ℕ)
+    → IsClosedFrom how order leads i nodes node r → IsClosedAt how order nodes node r
+closed_over how order leads i nodes node r closed = λ rank at. elim (closed rank at) [
   | inl done ↦ inl done
   | inr reached ↦ inr (λ e new is hart turn.
       let f = reached e new is hart turn in
-      reaches_in sure order nodes f.number f.next (node_of new (one_more node.had r)) f.there f.reaches)
+      reaches_in how order nodes f.number f.next (node_of new (one_more node.had r)) f.there f.reaches)
 ]
 
 -- what leads there are still lead between nodes that grow
@@ -243,16 +276,51 @@ are_more image order kept nodes k node are stands led =
 
 -- ---- a standing goes on
 
-pub goes_plainly : (order : List ℕ) (old new : Standing) → GoesAhead order old new → GoesOn false order old new
+-- a node that is alike where it goes covers that
+alike_covers : (order : List ℕ) (there node : Node) → AreAlikeNodes (by_order order) there node
+    → IsCovered (by_order order) (node ∷ []) there
+alike_covers order there node alike = covered_alike (by_order order) (node ∷ []) there node 0 alike refl
+
+pub goes_plainly : (order : List ℕ) (old new : Standing) → GoesAhead order old new → GoesOn plainly order old new
 goes_plainly order old new ahead = λ image start here stands way reached.
     let v = ahead image start here stands way in
     let cov = went_covers (by_order order) here v.0 v.3
-    (alike_by (by_order order) start v.0 new.steps.items reached v.2) in
-    (v.0, v.1, v.2, λ nodes next. reaches_on false order nodes here v.0 cov next)
+    (alike_by (by_order order) start v.0 new.steps.items reached v.2) in (
+      v.0,
+      v.1,
+      v.2,
+      λ node alike. reaches_on plainly order (node ∷ []) here v.0 tt cov (alike_covers order v.0 node alike),
+    )
 
 pub goes_surely : (order : List ℕ) (old mid new : Standing) → GoesAhead order old mid → GoesSurely order mid new
-    → GoesOn true order old new
-goes_surely order old mid new ahead surely = sure_more order old mid new (sure_ahead order old mid ahead) surely
+    → GoesOn at_once order old new
+goes_surely order old mid new ahead surely = λ image start here stands way reached.
+    let v = sure_more order old mid new (sure_ahead order old mid ahead) surely image start here stands way reached in (
+      v.0,
+      v.1,
+      v.2,
+      λ node alike. v.3 (node ∷ [])
+          (reaches_covered at_once order (node ∷ []) v.0 tt (alike_covers order v.0 node alike)),
+    )
+
+-- turns that nobody contests
+same_there : (node c : Cluster) → c ≡ node → (n : Node) → n.cluster ≡ node → IsOneOf (n ∷ []) c
+same_there node c is n at = (0, n, refl, at ∙ sym is)
+
+pub goes_uncontested : (order : List ℕ) (contest : Contest) (old new : Standing)
+    → LeadsOn order old new (IsSettledThere contest) → GoesOn (by_contest contest) order old new
+goes_uncontested order contest old new leads = λ image start here stands way reached.
+    let v = leads image start here stands way reached in (
+      v.0,
+      v.1,
+      v.2,
+      λ node alike.
+          let settled = v.3 node.cluster (alike.names, alike.alike) in (
+            settled.0,
+            settled_into contest (λ c. c ≡ node.cluster) (IsOneOf (node ∷ []))
+                (λ c is. same_there node.cluster c is node refl) settled.0 here.cluster settled.1,
+          ),
+    )
 
 -- ---- a standing arrives
 

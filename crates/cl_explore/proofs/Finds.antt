@@ -1,10 +1,10 @@
 -- The search as a whole.
-use Rattle.std.specs.Prelude.{ℕ, zero, suc, ◌+◌, ◌<◌, ◌≤◌, ◌≡◌, ◌⊎◌, List, [], ◌∷◌, ◌++◌, length, option_map, reverse, slice_get, Option, None, Some, Bool, true, false, Result, Ok, Err, IfOk, map}
+use Rattle.std.specs.Prelude.{ℕ, zero, suc, ◌+◌, ◌<◌, ◌≤◌, ◌≡◌, ◌⊎◌, List, [], ◌++◌, length, option_map, reverse, slice_get, Option, None, Some, Bool, true, false, Result, Ok, Err, IfOk, IfSome, map}
 use Rattle.std.proofs.Common.{refl, sym, ap, ◌∙◌, subst, arith, inl, inr}
 use Rattle.std.proofs.lemmas.Bool.{cases_eq}
 use Rattle.std.proofs.lemmas.List.{reverse-append, reverse-reverse}
 use Rattle.std.proofs.lemmas.Option.{same_Some, slice_get_within}
-use Rattle.rv_image.specs.declared.images.ImageParts.{ImageParts}
+use Rattle.rv_image_types.specs.declared.images.ImageParts.{ImageParts}
 use Rattle.cl_machine.specs.declared.steps.Step.{Step}
 use Rattle.cl_turns.specs.declared.Turn.{Turn}
 use Rattle.cl_machine.specs.Cluster.{Cluster, IsRun}
@@ -19,12 +19,16 @@ use Rattle.cl_moves.specs.Standing.{IsStart, IsWay, StandsAt, by_order, first_no
 use Rattle.cl_moves.specs.Posts.{most_posts}
 use Rattle.cl_moves.specs.declared.standing.Standing.{Standing}
 use Rattle.cl_explore.specs.Kept.{IsBefore, IsLed}
-use Rattle.rv_image.specs.Image.{IsImage}
+use Rattle.rv_image_types.specs.Image.{IsImage}
 use Rattle.cl_deadlock.specs.Why.{IsVerdictOf}
 use Rattle.cl_explore.specs.Companies.{IsCompanyAt, IsJudged, NotesStuck}
-use Rattle.cl_explore.specs.Covering.{AreLeads, AreNodes, HasRoom, HasRoomAt, IsClosedAt, IsClosedFrom, Reaches}
-use Rattle.cl_explore.specs.Ends.{AreAllEnds, AreTurnsTo, BeginsAt, BeginsWell, Explored, ExploredFrom, ExploresFrom, Findings, Notes}
-use Rattle.cl_explore.specs.Orders.{named}
+use Rattle.cl_order_laws.specs.Laws.{AreAlike}
+use Rattle.cl_contests.proofs.Below.{source_law}
+use Rattle.cl_contest_laws.proofs.Contest.{contest_law}
+use Rattle.cl_explore.specs.How.{HasRoom, How, IsFitFor, IsUncontested, MayBegin, at_once, by_contest, plainly}
+use Rattle.cl_explore.specs.Covering.{AreLeads, AreNodes, HasRoomAt, IsClosedAt, IsClosedFrom, Reaches}
+use Rattle.cl_explore.specs.Ends.{AreAlikeEnds, AreAllEnds, AreTurnsTo, BeginsAt, BeginsWell, Explored, ExploredBehind, ExploredFrom, ExploresFrom, Findings, Notes}
+use Rattle.cl_explore.specs.Orders.{IsLedBy, named}
 use Rattle.cl_explore.specs.Searching.{AreFound, Arrives, FindsMore, GoesOn, IsVisited, KeepsOf}
 use Rattle.cl_explore.specs.declared.companies.Company.{Company}
 use Rattle.cl_explore.specs.declared.kept.KeptNode.{KeptNode}
@@ -32,17 +36,17 @@ use Rattle.cl_explore.specs.declared.moving.Visit.{Visit}
 use Rattle.cl_explore.specs.declared.search.Search.{Search}
 use Rattle.cl_explore.proofs.Lists.{at_inside, at_last, stays_at, was_or_new}
 use Rattle.cl_explore.proofs.Keeping.{led_at, no_way, way_on}
-use Rattle.cl_explore.proofs.Covers.{closed_more, closed_over, covered_alike, reaches_covered, reaches_more}
+use Rattle.cl_explore.proofs.Covers.{closed_more, closed_over, reaches_in, reaches_more}
 
 -- ---- the first node
 
 no_nodes : (image : ImageParts) (order : List ℕ) → AreNodes image order [] []
 no_nodes image order = record { many = refl; each = λ i k at. absurd (cc) }
 
-pub begins : (sure : Bool) (order : List ℕ) (none : List KeptNode) (new : Search) (number : ℕ) (start there : Standing)
-    → none ≡ [] → new.leads.items ≡ [] → GoesOn sure order start there
-    → Arrives order none 0 there new.nodes.items number → BeginsAt sure order start new
-begins sure order none new number start there empty still ahead arrives = λ image here stands way.
+pub begins : (how : How) (order : List ℕ) (none : List KeptNode) (new : Search) (number : ℕ) (start there : Standing)
+    → none ≡ [] → new.leads.items ≡ [] → GoesOn how order start there
+    → Arrives order none 0 there new.nodes.items number → BeginsAt how order start new
+begins how order none new number start there empty still ahead arrives = λ image here stands way.
     let first = first_node image in
     let plans = by_order order in
     let far = ahead image first here stands way (image, [], refl) in
@@ -53,20 +57,20 @@ begins sure order none new number start there empty still ahead arrives = λ ima
       nodes = kept.more;
       are = kept.are;
       still = still;
-      start_is = far.3 kept.more (reaches_covered sure order kept.more far.0
-          (covered_alike plans kept.more far.0 alike.0 number alike.2 alike.1));
+      start_is = reaches_in how order kept.more number alike.0 here alike.1 (far.3 alike.0 alike.2);
     }
 
 -- ---- so many nodes were visited
 
-pub record SoFar (sure : Bool) (image : ImageParts) (order : List ℕ) (start : Node) (search : Search)
+pub record SoFar (how : How) (image : ImageParts) (order : List ℕ) (start : Node) (search : Search)
     (ends : List ℕ) (companies : List Company) (done : ℕ) : Type 0 where
   pub nodes : List Node
   pub found : AreFound image order search nodes
-  pub start_is : Reaches sure order nodes start
+  pub start_is : Reaches how order nodes start
   pub closed : (i r : ℕ) (node : Node) → i < done → slice_get nodes i ≡ Some node
-      → IsClosedFrom sure order search.leads.items i nodes node r
-  pub few : (i : ℕ) (node : Node) → i < done → slice_get nodes i ≡ Some node → HasRoom sure (hub_of node.cluster.journal)
+      → IsClosedFrom how order search.leads.items i nodes node r
+  pub few : (i : ℕ) (node : Node) → i < done → slice_get nodes i ≡ Some node → HasRoom how (hub_of node.cluster.journal)
+  pub fit : (i : ℕ) (node : Node) → i < done → slice_get nodes i ≡ Some node → IsFitFor how node.cluster
   pub told : (k i : ℕ) → slice_get ends k ≡ Some i
       → (node : Node) × (slice_get nodes i ≡ Some node) × IsEnd (by_order order) node.cluster
   pub all : (i : ℕ) (node : Node) → i < done → slice_get nodes i ≡ Some node → IsEnd (by_order order) node.cluster
@@ -76,10 +80,10 @@ pub record SoFar (sure : Bool) (image : ImageParts) (order : List ℕ) (start : 
   pub judged : IsImage image → (i : ℕ) (node : Node) → i < done → slice_get nodes i ≡ Some node
       → IsJudged companies i node.cluster
 
-pub none_so_far : (sure : Bool) (image : ImageParts) (order : List ℕ) (start : Node) (search : Search)
-    (ends : List ℕ) (companies : List Company) → BeginsWell sure image order start search → ends ≡ [] → companies ≡ []
-    → SoFar sure image order start search ends companies 0
-none_so_far sure image order start search ends companies begun none nobody = record {
+pub none_so_far : (how : How) (image : ImageParts) (order : List ℕ) (start : Node) (search : Search)
+    (ends : List ℕ) (companies : List Company) → BeginsWell how image order start search → ends ≡ [] → companies ≡ []
+    → SoFar how image order start search ends companies 0
+none_so_far how image order start search ends companies begun none nobody = record {
   nodes = begun.nodes;
   found = record {
     are = begun.are;
@@ -89,6 +93,7 @@ none_so_far sure image order start search ends companies begun none nobody = rec
   start_is = begun.start_is;
   closed = λ i r node low at. absurd (omega (arith, low));
   few = λ i node low at. absurd (omega (arith, low));
+  fit = λ i node low at. absurd (omega (arith, low));
   told = λ k i at.
       let no : slice_get [] k ≡ Some i = subst (λ xs. slice_get xs k ≡ Some i) none at in absurd (cc);
   all = λ i node low at end. absurd (omega (arith, low));
@@ -161,22 +166,22 @@ ends_noted ends now done false notes = subst (λ xs. EndsNoted ends xs done fals
   here = λ is. absurd (cc);
 })
 
-module _ (sure : Bool) (image : ImageParts) (order : List ℕ) (start : Node) (old new : Search) (ends now : List ℕ)
-    (companies after : List Company) (done : ℕ) (explored : SoFar sure image order start old ends companies done)
-    (inside : done < length old.nodes.items) (room : HasRoomAt sure old.nodes.items done) (visit : Visit)
-    (visits : KeepsOf order old done new (IsVisited sure order new.leads.items done visit)) where
+module _ (how : How) (image : ImageParts) (order : List ℕ) (start : Node) (old new : Search) (ends now : List ℕ)
+    (companies after : List Company) (done : ℕ) (explored : SoFar how image order start old ends companies done)
+    (inside : done < length old.nodes.items) (room : HasRoomAt how old.nodes.items done) (visit : Visit)
+    (visits : KeepsOf order old done new (IsVisited how order new.leads.items done visit)) where
   abbrev nodes : List Node
   nodes = explored.nodes
 
   node : (node : Node) × (slice_get nodes done ≡ Some node)
   node = at_inside nodes done (subst (λ c. done < c) (sym ((explored.found).are).many) inside)
 
-  node_room : HasRoom sure (hub_of (node.0).cluster.journal)
+  node_room : HasRoom how (hub_of (node.0).cluster.journal)
   node_room =
       let v = led_at image order old.nodes.items nodes (explored.found).are done node.0 node.1 in
-      subst (HasRoom sure) (v.2).whole (room v.0 v.1)
+      subst (HasRoom how) (v.2).whole (room v.0 v.1)
 
-  far : FindsMore image order old nodes new (λ more. IsVisited sure order new.leads.items done visit image more node.0)
+  far : FindsMore image order old nodes new (λ more. IsVisited how order new.leads.items done visit image more node.0)
   far = visits image nodes node.0 explored.found node.1
 
   there : slice_get far.more done ≡ Some node.0
@@ -201,18 +206,19 @@ module _ (sure : Bool) (image : ImageParts) (order : List ℕ) (start : Node) (o
 
   pub more : Notes ends visit.end done now
       → NotesStuck companies (option_map (λ ranks. ranks.items) visit.stuck) done after
-      → SoFar sure image order start new now after (done + 1)
+      → SoFar how image order start new now after (done + 1)
   more ended stuck =
       let noted = ends_noted ends now done visit.end ended in
       record {
         nodes = far.more;
         found = far.found;
-        start_is = reaches_more sure order nodes far.more start far.grows explored.start_is;
+        start_is = reaches_more how order nodes far.more start far.grows explored.start_is;
         closed = λ i r x low at.
-            each (λ j y. IsClosedFrom sure order new.leads.items j far.more y r) ((far.holds).closed r)
-            (λ j y less was. closed_more sure order old.leads.items new.leads.items j nodes far.more y r far.grows far.leads
+            each (λ j y. IsClosedFrom how order new.leads.items j far.more y r) ((far.holds).closed r)
+            (λ j y less was. closed_more how order old.leads.items new.leads.items j nodes far.more y r far.grows far.leads
             (explored.closed j r y less was)) i x low at;
-        few = each (λ j y. HasRoom sure (hub_of y.cluster.journal)) node_room explored.few;
+        few = each (λ j y. HasRoom how (hub_of y.cluster.journal)) node_room explored.few;
+        fit = each (λ j y. IsFitFor how y.cluster) (far.holds).fit explored.fit;
         told = λ k i at. elim (noted.was k i at) [
           | inl before ↦ let v = explored.told k i before in (v.0, far.grows i v.0 v.1, v.2)
           | inr last ↦ (
@@ -244,57 +250,84 @@ module _ (sure : Bool) (image : ImageParts) (order : List ℕ) (start : Node) (o
 -- ---- in the end
 
 -- where each node is closed, with few posts where calls for what is there are made at once, the nodes have each end
-pub ends_by : (sure : Bool) (order : List ℕ) (nodes : List Node) (start : Node) → Reaches sure order nodes start
-    → HasRoom sure (hub_of start.cluster.journal)
-    → ((i r : ℕ) (node : Node) → slice_get nodes i ≡ Some node → IsClosedAt sure order nodes node r)
-    → ((i : ℕ) (node : Node) → slice_get nodes i ≡ Some node → HasRoom sure (hub_of node.cluster.journal))
+pub ends_by : (how : How) (order : List ℕ) (nodes : List Node) (start : Node) → IsUncontested how
+    → Reaches how order nodes start → HasRoom how (hub_of start.cluster.journal)
+    → ((i r : ℕ) (node : Node) → slice_get nodes i ≡ Some node → IsClosedAt how order nodes node r)
+    → ((i : ℕ) (node : Node) → slice_get nodes i ≡ Some node → HasRoom how (hub_of node.cluster.journal))
     → (steps : List Step) (end : Cluster) → IsRun start.cluster steps end
     → FollowPlans (by_order order) start.had steps → IsEnd (by_order order) end → HasAlike nodes end
-ends_by true order nodes start reach room closed few = λ steps end run follow ended.
+ends_by (by_contest contest) order nodes start none reach room closed few = absurd none
+ends_by at_once order nodes start none reach room closed few = λ steps end run follow ended.
     at_once_law.ends (by_order order) most_posts nodes start reach (omega (arith, room))
     (record { each = λ i r node rank at here. closed i r node at rank here; few = few }) steps end run follow ended
-ends_by false order nodes start reach room closed few = λ steps end run follow ended.
+ends_by plainly order nodes start none reach room closed few = λ steps end run follow ended.
     every_end_law (by_order order) nodes start reach
     (record { each = λ i r node rank at here. closed i r node at rank here }) steps end run follow ended
 
-module _ (sure : Bool) (image : ImageParts) (order : List ℕ) (start : Node) (search : Search) (found : Findings)
-    (done : ℕ) (explored : SoFar sure image order start search found.ends found.companies done)
+-- likeness that keeps the order of all messages is likeness
+alike_ends : (a b : Cluster) → AreAlike a b → AreAlikeEnds a b
+alike_ends a b alike = ((λ rank comm. false), source_law.same (λ rank comm. false) a b alike)
+
+-- and the node that is alike an end is one
+pub ends_of : (how : How) (image : ImageParts) (order : List ℕ) (nodes : List Node) (start : Node)
+    → Reaches how order nodes start → MayBegin how image order start → HasRoom how (hub_of start.cluster.journal)
+    → ((i r : ℕ) (node : Node) → slice_get nodes i ≡ Some node → IsClosedAt how order nodes node r)
+    → ((i : ℕ) (node : Node) → slice_get nodes i ≡ Some node → HasRoom how (hub_of node.cluster.journal))
+    → ((i : ℕ) (node : Node) → slice_get nodes i ≡ Some node → IsFitFor how node.cluster)
+    → (steps : List Step) (end : Cluster) → IsRun start.cluster steps end
+    → FollowPlans (by_order order) start.had steps → IsEnd (by_order order) end
+    → (i : ℕ) × (node : Node) × (slice_get nodes i ≡ Some node) × IsEnd (by_order order) node.cluster
+    × AreAlikeEnds end node.cluster
+ends_of (by_contest contest) image order nodes start reach begins room closed few fit = λ steps end run follow ended.
+    let v = contest_law.ends contest (by_order order) nodes start begins.1 reach
+    (record { closed = λ i r node rank at here. closed i r node at rank here; fit = fit }) steps end run follow ended in
+    (v.0, v.1, v.2, v.3, (contest.wild, v.4))
+ends_of at_once image order nodes start reach begins room closed few fit = λ steps end run follow ended.
+    let v = ends_by at_once order nodes start tt reach room closed few steps end run follow ended in
+    (v.0, v.1, v.2, ends_law.ends (by_order order) end (v.1).cluster v.3 ended, alike_ends end (v.1).cluster v.3)
+ends_of plainly image order nodes start reach begins room closed few fit = λ steps end run follow ended.
+    let v = ends_by plainly order nodes start tt reach room closed few steps end run follow ended in
+    (v.0, v.1, v.2, ends_law.ends (by_order order) end (v.1).cluster v.3 ended, alike_ends end (v.1).cluster v.3)
+
+module _ (how : How) (image : ImageParts) (order : List ℕ) (start : Node) (search : Search) (found : Findings)
+    (done : ℕ) (explored : SoFar how image order start search found.ends found.companies done)
     (kept : found.kept ≡ search.nodes.items) (leads : found.leads ≡ search.leads.items)
-    (room : HasRoom sure (hub_of start.cluster.journal)) where
+    (room : HasRoom how (hub_of start.cluster.journal)) (begins_well : MayBegin how image order start) where
   abbrev them : List Node
   them = explored.nodes
 
-  closed_at : (i r : ℕ) (node : Node) → i < done → slice_get them i ≡ Some node → IsClosedAt sure order them node r
+  closed_at : (i r : ℕ) (node : Node) → i < done → slice_get them i ≡ Some node → IsClosedAt how order them node r
   closed_at i r node low at =
-      closed_over sure order search.leads.items i them node r (explored.closed i r node low at)
+      closed_over how order search.leads.items i them node r (explored.closed i r node low at)
 
   all_ends : length search.nodes.items ≤ done → AreAllEnds order start them found.ends
   all_ends all = λ steps end run follow ended.
       let low : (i : ℕ) (node : Node) → slice_get them i ≡ Some node → i < done =
       λ i node at.
       let inside = slice_get_within them i node at in omega (arith, inside, all, ((explored.found).are).many) in
-      let one = ends_by sure order them start explored.start_is room
+      let one = ends_of how image order them start explored.start_is begins_well room
       (λ i r node at. closed_at i r node (low i node at) at) (λ i node at. explored.few i node (low i node at) at)
-      steps end run follow ended in
-      let k = explored.all one.0 one.1 (low one.0 one.1 one.2) one.2
-      (ends_law.ends (by_order order) end (one.1).cluster one.3 ended) in
-      (k.0, one.0, one.1, k.1, one.2, one.3)
+      (λ i node at. explored.fit i node (low i node at) at) steps end run follow ended in
+      let k = explored.all one.0 one.1 (low one.0 one.1 one.2) one.2 one.3 in
+      (k.0, one.0, one.1, k.1, one.2, one.4)
 
   pub tells_all : length search.nodes.items ≤ done + found.left
-      → (e : ExploredFrom image order start found) × (e.sure ≡ sure)
+      → (e : ExploredFrom image order start found) × (e.how ≡ how)
   tells_all many = (
     record {
       nodes = them;
       are = subst (λ ks. AreNodes image order ks them) (sym kept) (explored.found).are;
-      sure = sure;
+      how = how;
       start_is = explored.start_is;
+      begins = begins_well;
       room = room;
       leads = subst (AreLeads order them) (sym leads) (explored.found).leads;
       follows = λ i r node visited.
-          subst (λ ls. IsClosedFrom sure order ls i them node r) (sym leads)
+          subst (λ ls. IsClosedFrom how order ls i them node r) (sym leads)
           (explored.closed i r node (low i visited.0) visited.1);
       closed = λ i r node visited. closed_at i r node (low i visited.0) visited.1;
       few = λ i node visited. explored.few i node (low i visited.0) visited.1;
+      fit = λ i node visited. explored.fit i node (low i visited.0) visited.1;
       sound = explored.told;
       told = λ i node visited ended. explored.all i node (low i visited.0) visited.1 ended;
       stuck = explored.stuck;
@@ -310,50 +343,78 @@ module _ (sure : Bool) (image : ImageParts) (order : List ℕ) (start : Node) (s
 -- ---- from whichever node the search begins at
 
 -- so it is, and the moves of no more nodes were made than are there
-abbrev pub SoFarFrom : Bool → List ℕ → Standing → Search → List ℕ → List Company → ℕ → Type 0
-SoFarFrom sure order standing search ends companies done =
+abbrev pub SoFarFrom : How → List ℕ → Standing → Search → List ℕ → List Company → ℕ → Type 0
+SoFarFrom how order standing search ends companies done =
     (image : ImageParts) (here : Node) → StandsAt image standing here
     → IsWay (by_order order) (first_node image) standing.steps.items here
-    → SoFar sure image order here search ends companies done × (done ≤ length search.nodes.items)
+    → SoFar how image order here search ends companies done × (done ≤ length search.nodes.items)
 
-pub none_from : (sure : Bool) (order : List ℕ) (standing : Standing) (search : Search) (ends : List ℕ)
-    (companies : List Company) → BeginsAt sure order standing search → ends ≡ [] → companies ≡ []
-    → SoFarFrom sure order standing search ends companies 0
-none_from sure order standing search ends companies begun none nobody = λ image here stands way. (
-  none_so_far sure image order here search ends companies (begun image here stands way) none nobody,
+pub none_from : (how : How) (order : List ℕ) (standing : Standing) (search : Search) (ends : List ℕ)
+    (companies : List Company) → BeginsAt how order standing search → ends ≡ [] → companies ≡ []
+    → SoFarFrom how order standing search ends companies 0
+none_from how order standing search ends companies begun none nobody = λ image here stands way. (
+  none_so_far how image order here search ends companies (begun image here stands way) none nobody,
   omega (arith),
 )
 
-pub more_from : (sure : Bool) (order : List ℕ) (standing : Standing) (old new : Search) (ends now : List ℕ)
-    (companies after : List Company) (done : ℕ) → SoFarFrom sure order standing old ends companies done
-    → done < length old.nodes.items → HasRoomAt sure old.nodes.items done → (visit : Visit)
-    → KeepsOf order old done new (IsVisited sure order new.leads.items done visit) → Notes ends visit.end done now
+pub more_from : (how : How) (order : List ℕ) (standing : Standing) (old new : Search) (ends now : List ℕ)
+    (companies after : List Company) (done : ℕ) → SoFarFrom how order standing old ends companies done
+    → done < length old.nodes.items → HasRoomAt how old.nodes.items done → (visit : Visit)
+    → KeepsOf order old done new (IsVisited how order new.leads.items done visit) → Notes ends visit.end done now
     → NotesStuck companies (option_map (λ ranks. ranks.items) visit.stuck) done after
-    → SoFarFrom sure order standing new now after (done + 1)
-more_from sure order standing old new ends now companies after done so_far inside room visit visits notes stuck =
+    → SoFarFrom how order standing new now after (done + 1)
+more_from how order standing old new ends now companies after done so_far inside room visit visits notes stuck =
     λ image here stands way.
     let s = so_far image here stands way in
-    let still = still_inside sure image order here old new ends now companies after done s.0 inside room visit visits in (
-      more sure image order here old new ends now companies after done s.0 inside room visit visits notes stuck,
+    let still = still_inside how image order here old new ends now companies after done s.0 inside room visit visits in (
+      more how image order here old new ends now companies after done s.0 inside room visit visits notes stuck,
       omega (arith, still),
     )
 
-pub tells_from : (sure : Bool) (order : List ℕ) (standing : Standing) (search : Search) (found : Findings)
-    (done : ℕ) → HasRoom sure standing.whole
-    → SoFarFrom sure order standing search found.ends found.companies done → found.kept ≡ search.nodes.items
+pub tells_from : (how : How) (order : List ℕ) (standing : Standing) (search : Search) (found : Findings)
+    (done : ℕ) → HasRoom how standing.whole
+    → SoFarFrom how order standing search found.ends found.companies done → found.kept ≡ search.nodes.items
     → found.leads ≡ search.leads.items → length search.nodes.items ≤ done + found.left
-    → ExploresFrom sure order standing found
-tells_from sure order standing search found done room so_far kept leads many = λ image here stands way.
-    tells_all sure image order here search found done (so_far image here stands way).0 kept leads
-    (subst (HasRoom sure) stands.whole room) many
+    → ExploresFrom how order standing found
+tells_from how order standing search found done room so_far kept leads many = λ image here stands way begins_well.
+    tells_all how image order here search found done (so_far image here stands way).0 kept leads
+    (subst (HasRoom how) stands.whole room) begins_well many
 
 -- from the loaded cluster
-pub explored_start : (sure : Bool) (image : ImageParts) (order : List ℕ) (standing : Standing) (found : Findings)
-    → IsStart image standing → ExploresFrom sure order standing found
-    → (e : Explored image order found) × (e.sure ≡ sure)
-explored_start sure image order standing found start explores =
+pub explored_start : (how : How) (image : ImageParts) (order : List ℕ) (standing : Standing) (found : Findings)
+    → IsStart image standing → MayBegin how image order (first_node image) → ExploresFrom how order standing found
+    → (e : Explored image order found) × (e.how ≡ how)
+explored_start how image order standing found start begins_well explores =
     explores image (first_node image) start.stands
-    (no_way (by_order order) (first_node image) standing.steps.items start.steps)
+    (no_way (by_order order) (first_node image) standing.steps.items start.steps) begins_well
+
+-- from where turns lead, without turns that go first
+pub explored_behind : (how : How) (image : ImageParts) (order : List ℕ) (turns : List Turn) (standing : Standing)
+    (found : Findings) → IsUncontested how → IsLedBy image order turns standing → ExploresFrom how order standing found
+    → ExploredBehind image order turns found
+explored_behind (by_contest contest) image order turns standing found none led explores = absurd none
+explored_behind at_once image order turns standing found none led explores =
+    let v = explores image led.here led.stands (led.ordered).way tt in
+    record {
+      steps = standing.steps.items;
+      start = led.here;
+      ordered = led.ordered;
+      explored = v.0;
+      uncontested = subst IsUncontested (sym v.1) tt;
+    }
+explored_behind plainly image order turns standing found none led explores =
+    let v = explores image led.here led.stands (led.ordered).way tt in
+    record {
+      steps = standing.steps.items;
+      start = led.here;
+      ordered = led.ordered;
+      explored = v.0;
+      uncontested = subst IsUncontested (sym v.1) tt;
+    }
+
+pub if_some_on : {A : Type 0} {P Q : A → Type 0} (o : Option A) → ((a : A) → P a → Q a) → IfSome o P → IfSome o Q
+if_some_on None on is = tt
+if_some_on (Some a) on is = on a is
 
 -- ---- what led to a node
 

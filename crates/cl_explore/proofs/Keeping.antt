@@ -2,10 +2,10 @@
 use Rattle.std.specs.Prelude.{ℕ, zero, suc, ◌<◌, ◌≡◌, List, [], ◌∷◌, ◌++◌, length, slice_get, Some}
 use Rattle.std.proofs.Common.{refl, sym, ap, ◌∙◌, subst, arith}
 use Rattle.std.proofs.lemmas.Option.{same_Some, slice_get_within}
-use Rattle.rv_image.specs.declared.images.ImageParts.{ImageParts}
+use Rattle.rv_image_types.specs.declared.images.ImageParts.{ImageParts}
 use Rattle.cl_machine.specs.Cluster.{Cluster, IsRun}
 use Rattle.cl_machine.specs.declared.steps.Step.{Step}
-use Rattle.cl_replay.specs.Kept.{RanksAt, Snapshot, snapshot, with_hub}
+use Rattle.cl_replay.specs.Kept.{RanksAt, snapshot, with_hub}
 use Rattle.cl_record.specs.Keys.{ShowsAll}
 use Rattle.cl_replay.proofs.Same.{same_stands, snapshot_same}
 use Rattle.cl_order_laws.specs.Alike.{hub_of}

@@ -10,3 +10,4 @@ pub mod Finds
 pub mod Alike
 pub mod Ordering
 pub mod Fronts
+pub mod Below

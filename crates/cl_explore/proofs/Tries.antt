@@ -1,10 +1,10 @@
 -- Moves of a node, one after another.
-use Rattle.std.specs.Prelude.{ℕ, ◌+◌, ◌<◌, ◌≤◌, ◌≡◌, ◌⊎◌, List, [], ◌∷◌, ◌++◌, length, min, option_map, slice_get, Some, Bool}
-use Rattle.std.proofs.Common.{refl, sym, ap, ◌∙◌, subst, arith, inl, inr}
+use Rattle.std.specs.Prelude.{ℕ, ◌+◌, ◌<◌, ◌≤◌, ◌≡◌, ◌⊎◌, List, [], ◌∷◌, ◌++◌, length, min, option_map, slice_get, Some}
+use Rattle.std.proofs.Common.{sym, ap, ◌∙◌, subst, arith, inl, inr}
 use Rattle.std.proofs.lemmas.Bool.{cases_eq}
 use Rattle.std.proofs.lemmas.List.{length-map}
 use Rattle.std.proofs.lemmas.Option.{same_Some, slice_get_within}
-use Rattle.rv_image.specs.declared.images.ImageParts.{ImageParts}
+use Rattle.rv_image_types.specs.declared.images.ImageParts.{ImageParts}
 use Rattle.cl_record.specs.Plans.{in_slot}
 use Rattle.cl_machine.specs.declared.steps.Step.{Step}
 use Rattle.cl_machine.proofs.Tables.{step_once}
@@ -15,17 +15,18 @@ use Rattle.cl_state.specs.Rank.{Rank}
 use Rattle.cl_state.specs.Room.{rank_of}
 use Rattle.cl_moves.specs.Ends.{TellsEnd}
 use Rattle.cl_moves.specs.Moves.{AreTurnsOf, HasAllTurns}
-use Rattle.cl_moves.specs.Standing.{HasNoTurn, IsNextHart, Took, by_order, node_of}
+use Rattle.cl_moves.specs.Standing.{HasNoTurn, IsNextHart, StandsAt, Took, by_order, node_of}
 use Rattle.cl_moves.specs.declared.standing.Standing.{Standing}
 use Rattle.cl_explore.specs.Kept.{HaveStayed, IsLiveAt, IsLiveOf, KeptStandsAt}
 use Rattle.cl_deadlock.specs.Why.{IsDeadlockVerdict}
-use Rattle.cl_explore.specs.Covering.{AreNodes, HasLead, IsClosedFrom, IsReachedFrom, IsReachedTurn, LeadsGrow, Reaches, AreLeads}
-use Rattle.cl_explore.specs.Searching.{AreClosedBelow, AreFound, ArePlanned, Arrives, ClosesRank, Goes, GoesEach, GoesOn, IsVisited, KeepsAt, KeepsOf}
+use Rattle.cl_explore.specs.How.{How, IsFitFor}
+use Rattle.cl_explore.specs.Covering.{AreNodes, IsClosedFrom, IsReachedFrom, IsReachedTurn, LeadsGrow, Reaches, AreLeads}
+use Rattle.cl_explore.specs.Searching.{AreClosedBelow, ArePlanned, Arrives, ClosesRank, Goes, GoesEach, GoesOn, IsVisited, KeepsAt, KeepsOf}
 use Rattle.cl_explore.specs.declared.kept.KeptNode.{KeptNode}
 use Rattle.cl_explore.specs.declared.leads.Lead.{Lead}
 use Rattle.cl_explore.specs.declared.moving.Visit.{Visit}
 use Rattle.cl_explore.specs.declared.search.Search.{Search}
-use Rattle.cl_explore.proofs.Covers.{by_state, closed_more, covered_alike, grows_none, grows_on, leads_more, leads_on, reaches_covered, turn_more}
+use Rattle.cl_explore.proofs.Covers.{by_state, closed_more, grows_none, grows_on, leads_more, leads_on, turn_more}
 use Rattle.cl_explore.proofs.Lists.{at_inside, at_last, stays_at, was_or_new}
 use Rattle.cl_explore.proofs.Staying.{have_stayed}
 use Rattle.cl_explore.proofs.Keeping.{before_at, found_reached, live_stands, no_way, node_found}
@@ -61,9 +62,9 @@ module _ (order : List ℕ) (old : List KeptNode) (n : ℕ) (k : KeptNode) (at :
   }
 
   -- the machine has no such turn there
-  pub goes_nowhere : (sure : Bool) (search : Search) → search.nodes.items ≡ old → (live after : Standing) (e : Step)
-      → HasNoTurn live e → IsLiveOf k after → Goes sure order search n live e search after
-  goes_nowhere sure search same live after e none is = λ image nodes node found there at planned. (
+  pub goes_nowhere : (how : How) (search : Search) → search.nodes.items ≡ old → (live after : Standing) (e : Step)
+      → HasNoTurn live e → IsLiveOf k after → Goes how order search n live e search after
+  goes_nowhere how search same live after e none is = λ image nodes node found there at planned. (
     record {
       more = nodes;
       grows = grows_none nodes;
@@ -75,12 +76,12 @@ module _ (order : List ℕ) (old : List KeptNode) (n : ℕ) (k : KeptNode) (at :
   )
 
 -- it has: where it leads is kept, or alike a node, to which a move led, and then the standing is at the node again
-pub goes_on : (sure : Bool) (order : List ℕ) (old new : Search) (n number : ℕ) (lead : Lead) (e : Step)
+pub goes_on : (how : How) (order : List ℕ) (old new : Search) (n number : ℕ) (lead : Lead) (e : Step)
     (live mid there after : Standing) → lead.from ≡ n → lead.to ≡ number → new.leads.items ≡ old.leads.items ++ lead ∷ []
-    → Took live e mid → GoesOn sure order mid there → Arrives order old.nodes.items n there new.nodes.items number
+    → Took live e mid → GoesOn how order mid there → Arrives order old.nodes.items n there new.nodes.items number
     → ((k : KeptNode) → slice_get new.nodes.items n ≡ Some k → HaveStayed k there → IsLiveOf k after)
-    → Goes sure order old n live e new after
-goes_on sure order old new n number lead e live mid there after from to longer took ahead arrives back =
+    → Goes how order old n live e new after
+goes_on how order old new n number lead e live mid there after from to longer took ahead arrives back =
     λ image nodes node found here at planned.
     let plans = by_order order in
     let led = took image plans node node at.stands (no_way plans node live.steps.items at.steps) planned.0 in
@@ -122,9 +123,8 @@ goes_on sure order old new n number lead e live mid there after from to longer t
                 to,
               );
               there = end;
-              reaches = subst (λ c. Reaches sure order (next ∷ []) (node_of c (one_more node.had e.rank))) same
-                  (far.3 (next ∷ []) (reaches_covered sure order (next ∷ []) far.0
-                  (covered_alike plans (next ∷ []) far.0 next 0 (kept.holds).2 refl)));
+              reaches = subst (λ c. Reaches how order (next ∷ []) (node_of c (one_more node.had e.rank))) same
+                  (far.3 next (kept.holds).2);
             };
       },
       live_at order new.nodes.items n k.0 k.1 after
@@ -133,11 +133,11 @@ goes_on sure order old new n number lead e live mid there after from to longer t
     )
 
 -- no such node is kept then either
-pub goes_past : (sure : Bool) (order : List ℕ) (old new : Search) (n number : ℕ) (e : Step)
-    (live mid there after : Standing) → Took live e mid → GoesOn sure order mid there
+pub goes_past : (how : How) (order : List ℕ) (old new : Search) (n number : ℕ) (e : Step)
+    (live mid there after : Standing) → Took live e mid → GoesOn how order mid there
     → Arrives order old.nodes.items n there new.nodes.items number → length new.nodes.items ≤ n
-    → Goes sure order old n live e new after
-goes_past sure order old new n number e live mid there after took ahead arrives past =
+    → Goes how order old n live e new after
+goes_past how order old new n number e live mid there after took ahead arrives past =
     λ image nodes node found here at planned.
     let plans = by_order order in
     let led = took image plans node node at.stands (no_way plans node live.steps.items at.steps) planned.0 in
@@ -150,15 +150,15 @@ goes_past sure order old new n number e live mid there after took ahead arrives 
 -- ---- each turn of a list, from its end on
 
 -- of those that are left nothing is said yet, and the others are covered
-abbrev pub GoneFrom : Bool → List ℕ → Search → ℕ → Standing → List Step → List Step → Search → Standing → Type 0
-GoneFrom sure order old n live turns left new after =
+abbrev pub GoneFrom : How → List ℕ → Search → ℕ → Standing → List Step → List Step → Search → Standing → Type 0
+GoneFrom how order old n live turns left new after =
     KeepsAt order old n live new after (λ node. ArePlanned order node turns)
     (λ more node. (i : ℕ) (e : Step) → slice_get turns i ≡ Some e
-    → (slice_get left i ≡ Some e) ⊎ IsReachedTurn sure order new.leads.items n more node e)
+    → (slice_get left i ≡ Some e) ⊎ IsReachedTurn how order new.leads.items n more node e)
 
-pub none_gone : (sure : Bool) (order : List ℕ) (old : Search) (n : ℕ) (live : Standing) (turns : List Step)
-    → GoneFrom sure order old n live turns turns old live
-none_gone sure order old n live turns = λ image nodes node found there at planned. (
+pub none_gone : (how : How) (order : List ℕ) (old : Search) (n : ℕ) (live : Standing) (turns : List Step)
+    → GoneFrom how order old n live turns turns old live
+none_gone how order old n live turns = λ image nodes node found there at planned. (
   record {
     more = nodes;
     grows = grows_none nodes;
@@ -173,11 +173,11 @@ none_gone sure order old n live turns = λ image nodes node found there at plann
 abbrev pub Firsts : List Step → List Step → Type 0
 Firsts left turns = (i : ℕ) (e : Step) → slice_get left i ≡ Some e → slice_get turns i ≡ Some e
 
-pub one_gone : (sure : Bool) (order : List ℕ) (old mid new : Search) (n : ℕ) (live between after : Standing)
+pub one_gone : (how : How) (order : List ℕ) (old mid new : Search) (n : ℕ) (live between after : Standing)
     (turns left rest : List Step) (e : Step) → Firsts left turns → left ≡ rest ++ e ∷ []
-    → GoneFrom sure order old n live turns left mid between → Goes sure order mid n between e new after
-    → Firsts rest turns × GoneFrom sure order old n live turns rest new after
-one_gone sure order old mid new n live between after turns left rest e firsts is gone goes = (
+    → GoneFrom how order old n live turns left mid between → Goes how order mid n between e new after
+    → Firsts rest turns × GoneFrom how order old n live turns rest new after
+one_gone how order old mid new n live between after turns left rest e firsts is gone goes = (
   λ i x at. firsts i x (subst (λ xs. slice_get xs i ≡ Some x) (sym is) (stays_at rest e i x at)),
   λ image nodes node found there at planned.
       let end : slice_get turns (length rest) ≡ Some e =
@@ -194,12 +194,12 @@ one_gone sure order old mid new n live between after turns left rest e firsts is
           leads = leads_then old.leads.items mid.leads.items new.leads.items first.leads second.leads;
           holds = λ i x has. elim (first.holds i x has) [
             | inr covered ↦ inr
-                (turn_more sure order mid.leads.items new.leads.items n first.more second.more node x second.grows
+                (turn_more how order mid.leads.items new.leads.items n first.more second.more node x second.grows
                 second.leads covered)
             | inl was ↦ elim (was_or_new rest e i x (subst (λ xs. slice_get xs i ≡ Some x) is was)) [
               | inl still ↦ inl still
               | inr last ↦ inr
-                  (subst (λ y. IsReachedTurn sure order new.leads.items n second.more node y) (same_Some e x last.1)
+                  (subst (λ y. IsReachedTurn how order new.leads.items n second.more node y) (same_Some e x last.1)
                   second.holds)
             ]
           ];
@@ -208,10 +208,10 @@ one_gone sure order old mid new n live between after turns left rest e firsts is
       ),
 )
 
-pub all_gone : (sure : Bool) (order : List ℕ) (old new : Search) (n : ℕ) (live after : Standing) (turns left : List Step)
-    → length left ≡ 0 → GoneFrom sure order old n live turns left new after
-    → GoesEach sure order old n live turns new after
-all_gone sure order old new n live after turns left none gone = λ image nodes node found there at planned.
+pub all_gone : (how : How) (order : List ℕ) (old new : Search) (n : ℕ) (live after : Standing) (turns left : List Step)
+    → length left ≡ 0 → GoneFrom how order old n live turns left new after
+    → GoesEach how order old n live turns new after
+all_gone how order old new n live after turns left none gone = λ image nodes node found there at planned.
     let both = gone image nodes node found there at planned in
     let far = both.0 in (
       record {
@@ -230,10 +230,10 @@ all_gone sure order old new n live after turns left none gone = λ image nodes n
 -- ---- a rank
 
 -- the rank isn't there, or all its harts are stopped
-pub closed_done : (sure : Bool) (order : List ℕ) (old : Search) (n : ℕ) (live : Standing) (rank : ℕ)
+pub closed_done : (how : How) (order : List ℕ) (old : Search) (n : ℕ) (live : Standing) (rank : ℕ)
     → ((own : RankState) → slice_get live.cluster.ranks.items rank ≡ Some own → IsDone (in_slot order) (rank_of own))
-    → ClosesRank sure order old n live rank old live
-closed_done sure order old n live rank done = λ image nodes node found there at needs. (
+    → ClosesRank how order old n live rank old live
+closed_done how order old n live rank done = λ image nodes node found there at needs. (
   record {
     more = nodes;
     grows = grows_none nodes;
@@ -245,9 +245,9 @@ closed_done sure order old n live rank done = λ image nodes node found there at
 )
 
 -- no rank of that number has had turns
-pub closed_none : (sure : Bool) (order : List ℕ) (old : Search) (n : ℕ) (live : Standing) (rank : ℕ)
-    → length live.had.items ≤ rank → ClosesRank sure order old n live rank old live
-closed_none sure order old n live rank past = λ image nodes node found there at needs. (
+pub closed_none : (how : How) (order : List ℕ) (old : Search) (n : ℕ) (live : Standing) (rank : ℕ)
+    → length live.had.items ≤ rank → ClosesRank how order old n live rank old live
+closed_none how order old n live rank past = λ image nodes node found there at needs. (
   record {
     more = nodes;
     grows = grows_none nodes;
@@ -261,10 +261,10 @@ closed_none sure order old n live rank past = λ image nodes node found there at
 )
 
 -- all its turns were taken
-pub closed_by : (sure : Bool) (order : List ℕ) (old new : Search) (n : ℕ) (live after : Standing) (rank hart : ℕ)
+pub closed_by : (how : How) (order : List ℕ) (old new : Search) (n : ℕ) (live after : Standing) (rank hart : ℕ)
     (turns : List Step) → IsNextHart order live rank (Some hart) → HasAllTurns live.cluster rank hart turns
-    → AreTurnsOf rank hart turns → GoesEach sure order old n live turns new after → ClosesRank sure order old n live rank new after
-closed_by sure order old new n live after rank hart turns next all own goes = λ image nodes node found there at needs.
+    → AreTurnsOf rank hart turns → GoesEach how order old n live turns new after → ClosesRank how order old n live rank new after
+closed_by how order old new n live after rank hart turns next all own goes = λ image nodes node found there at needs.
     let hart_is : hart ≡ in_slot order (node.had rank) =
     next.2 ∙ ap (in_slot order) (sym ((at.stands).had rank next.0 next.1)) in
     let both = goes image nodes node found there at (λ i e has.
@@ -278,7 +278,7 @@ closed_by sure order old new n live after rank hart turns next all own goes = λ
         leads = far.leads;
         holds = λ x here. inr (λ e new_cluster is its leads.
             let one = all image node.cluster new_cluster e (at.stands).stands is (its ∙ sym hart_is) leads in
-            subst (λ r. IsReachedFrom sure order new.leads.items n far.more (node_of new_cluster (one_more node.had r))) is
+            subst (λ r. IsReachedFrom how order new.leads.items n far.more (node_of new_cluster (one_more node.had r))) is
             (far.holds one.0 e one.1 new_cluster leads));
       },
       both.1,
@@ -287,14 +287,14 @@ closed_by sure order old new n live after rank hart turns next all own goes = λ
 -- ---- all ranks
 
 -- where a standing is the node, its first so many ranks are closed
-abbrev pub ClosesBelow : Bool → List ℕ → Search → ℕ → Standing → ℕ → Search → Standing → Type 0
-ClosesBelow sure order old n live count new after =
+abbrev pub ClosesBelow : How → List ℕ → Search → ℕ → Standing → ℕ → Search → Standing → Type 0
+ClosesBelow how order old n live count new after =
     KeepsAt order old n live new after (λ node. Unit {0})
-    (λ more node. AreClosedBelow sure order new.leads.items n count more node)
+    (λ more node. AreClosedBelow how order new.leads.items n count more node)
 
-pub none_closed : (sure : Bool) (order : List ℕ) (old : Search) (n : ℕ) (live : Standing)
-    → ClosesBelow sure order old n live 0 old live
-none_closed sure order old n live = λ image nodes node found there at needs. (
+pub none_closed : (how : How) (order : List ℕ) (old : Search) (n : ℕ) (live : Standing)
+    → ClosesBelow how order old n live 0 old live
+none_closed how order old n live = λ image nodes node found there at needs. (
   record {
     more = nodes;
     grows = grows_none nodes;
@@ -305,10 +305,10 @@ none_closed sure order old n live = λ image nodes node found there at needs. (
   at,
 )
 
-pub one_closed : (sure : Bool) (order : List ℕ) (old mid new : Search) (n : ℕ) (live between after : Standing) (count : ℕ)
-    → ClosesBelow sure order old n live count mid between → ClosesRank sure order mid n between count new after
-    → ClosesBelow sure order old n live (count + 1) new after
-one_closed sure order old mid new n live between after count below one = λ image nodes node found there at needs.
+pub one_closed : (how : How) (order : List ℕ) (old mid new : Search) (n : ℕ) (live between after : Standing) (count : ℕ)
+    → ClosesBelow how order old n live count mid between → ClosesRank how order mid n between count new after
+    → ClosesBelow how order old n live (count + 1) new after
+one_closed how order old mid new n live between after count below one = λ image nodes node found there at needs.
     let before = below image nodes node found there at tt in
     let first = before.0 in
     let later = one image first.more node first.found (first.grows n node there) before.1 tt in
@@ -319,8 +319,8 @@ one_closed sure order old mid new n live between after count below one = λ imag
         found = second.found;
         leads = leads_then old.leads.items mid.leads.items new.leads.items first.leads second.leads;
         holds = λ r low. elim (cases_eq count r) [
-          | inl same ↦ subst (IsClosedFrom sure order new.leads.items n second.more node) same second.holds
-          | inr other ↦ closed_more sure order mid.leads.items new.leads.items n first.more second.more node r second.grows
+          | inl same ↦ subst (IsClosedFrom how order new.leads.items n second.more node) same second.holds
+          | inr other ↦ closed_more how order mid.leads.items new.leads.items n first.more second.more node r second.grows
               second.leads (first.holds r (omega (arith, low, other)))
         ];
       },
@@ -328,13 +328,14 @@ one_closed sure order old mid new n live between after count below one = λ imag
     )
 
 -- each rank is closed, and it was told whether nobody goes on, and who is stuck
-pub visited : (sure : Bool) (order : List ℕ) (old new : Search) (n : ℕ) (k : KeptNode) → slice_get old.nodes.items n ≡ Some k
+pub visited : (how : How) (order : List ℕ) (old new : Search) (n : ℕ) (k : KeptNode) → slice_get old.nodes.items n ≡ Some k
     → (live after : Standing) → IsLiveOf k live → (count : ℕ) (visit : Visit)
     → min (length live.cluster.ranks.items) 255 ≤ count → TellsEnd live.cluster order visit.end
     → IsDeadlockVerdict after.cluster (option_map (λ ranks. ranks.items) visit.stuck)
-    → ClosesBelow sure order old n live count new after
-    → KeepsOf order old n new (IsVisited sure order new.leads.items n visit)
-visited sure order old new n k at live after is count visit enough tells verdict below = λ image nodes node found there.
+    → ((image : ImageParts) (here : Node) → StandsAt image live here → IsFitFor how here.cluster)
+    → ClosesBelow how order old n live count new after
+    → KeepsOf order old n new (IsVisited how order new.leads.items n visit)
+visited how order old new n k at live after is count visit enough tells verdict fits below = λ image nodes node found there.
     let here = live_at order old.nodes.items n k at live is image nodes node found.are there in
     let stands = here.stands in
     let both = below image nodes node found there here tt in
@@ -355,5 +356,6 @@ visited sure order old new n k at live after is count visit enough tells verdict
         stuck = λ right.
             verdict image node.cluster
             (record { right = right; reached = (way.0, (way.1).run); stands = ((both.1).stands).stands });
+        fit = fits image node stands;
       };
     }

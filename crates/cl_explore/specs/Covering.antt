@@ -1,17 +1,19 @@
 -- Lists of nodes that grow, and what they cover.
-use Rattle.std.specs.Prelude.{ℕ, ◌<◌, ◌≡◌, ◌⊎◌, List, [], ◌∷◌, length, slice_get, Some, Bool, true, false}
-use Rattle.rv_image.specs.declared.images.ImageParts.{ImageParts}
+use Rattle.std.specs.Prelude.{ℕ, ◌≡◌, ◌⊎◌, List, [], ◌∷◌, length, slice_get, Some}
+use Rattle.rv_image_types.specs.declared.images.ImageParts.{ImageParts}
 use Rattle.cl_record.specs.Plans.{in_slot}
 use Rattle.cl_state.specs.Rank.{Rank}
 use Rattle.cl_machine.specs.Cluster.{Cluster}
 use Rattle.cl_machine.specs.declared.steps.Step.{Step}
-use Rattle.mp_hub.specs.Hub.{HubView}
 use Rattle.cl_order_laws.specs.Alike.{Leads}
 use Rattle.cl_order_laws.specs.Closed.{IsCovered, IsDone, Node, one_more}
 use Rattle.cl_order_laws.specs.Sure.{IsSettledBy}
-use Rattle.cl_outcome_laws.specs.Graphs.{AreAlikeNodes}
+use Rattle.cl_contests.specs.Below.{IsSettled}
+use Rattle.cl_contest_laws.specs.Lists.{IsOneOf}
+use Rattle.cl_contest_laws.specs.Below.{AreAlikeNodes}
 use Rattle.cl_moves.specs.Standing.{IsWay, by_order, node_of}
 use Rattle.cl_moves.specs.Posts.{most_posts}
+use Rattle.cl_explore.specs.How.{HasRoom, How, at_once, by_contest, plainly}
 use Rattle.cl_explore.specs.Kept.{IsLed, KeptStandsAt}
 use Rattle.cl_explore.specs.declared.kept.KeptNode.{KeptNode}
 use Rattle.cl_explore.specs.declared.leads.Lead.{Lead}
@@ -56,47 +58,43 @@ LeadsGrow leads more = (k : ℕ) (lead : Lead) → slice_get leads k ≡ Some le
 
 -- ---- what is reached from a node
 
--- the nodes cover it, or, where calls for what is there are made at once, they settle it
-abbrev pub Reaches : Bool → List ℕ → List Node → Node → Type 0
-Reaches true order nodes here = IsSettledBy (by_order order) most_posts nodes here
-Reaches false order nodes here = IsCovered (by_order order) nodes here
+-- the nodes cover it; or, where calls for what is there are made at once, or turns that nobody contests, they settle it
+abbrev pub Reaches : How → List ℕ → List Node → Node → Type 0
+Reaches plainly order nodes here = IsCovered (by_order order) nodes here
+Reaches at_once order nodes here = IsSettledBy (by_order order) most_posts nodes here
+Reaches (by_contest contest) order nodes here = IsSettled contest (IsOneOf nodes) here.cluster
 
--- then few posts were made
-abbrev pub HasRoom : Bool → HubView → Type 0
-HasRoom true hub = length hub.board.lines < most_posts
-HasRoom false hub = Unit {0}
-
--- and so in what is kept at this number
-abbrev pub HasRoomAt : Bool → List KeptNode → ℕ → Type 0
-HasRoomAt sure kept i = (k : KeptNode) → slice_get kept i ≡ Some k → HasRoom sure k.whole
+-- few posts were made in what is kept at this number, if that matters
+abbrev pub HasRoomAt : How → List KeptNode → ℕ → Type 0
+HasRoomAt how kept i = (k : KeptNode) → slice_get kept i ≡ Some k → HasRoom how k.whole
 
 -- one of the nodes to which moves of the node of this number led reaches it
-pub record IsReachedFrom (sure : Bool) (order : List ℕ) (leads : List Lead) (i : ℕ) (nodes : List Node) (here : Node)
+pub record IsReachedFrom (how : How) (order : List ℕ) (leads : List Lead) (i : ℕ) (nodes : List Node) (here : Node)
     : Type 0 where
   pub number : ℕ
   pub next : Node
   pub led : HasLead leads i number
   pub there : slice_get nodes number ≡ Some next
-  pub reaches : Reaches sure order (next ∷ []) here
+  pub reaches : Reaches how order (next ∷ []) here
 
 -- wherever this turn of the node of this number leads is reached so
-abbrev pub IsReachedTurn : Bool → List ℕ → List Lead → ℕ → List Node → Node → Step → Type 0
-IsReachedTurn sure order leads i nodes node e =
+abbrev pub IsReachedTurn : How → List ℕ → List Lead → ℕ → List Node → Node → Step → Type 0
+IsReachedTurn how order leads i nodes node e =
     (new : Cluster) → Leads node.cluster e new
-    → IsReachedFrom sure order leads i nodes (node_of new (one_more node.had e.rank))
+    → IsReachedFrom how order leads i nodes (node_of new (one_more node.had e.rank))
 
 -- all harts of the rank are stopped, or wherever its next turn leads is reached so
-abbrev pub IsClosedFrom : Bool → List ℕ → List Lead → ℕ → List Node → Node → ℕ → Type 0
-IsClosedFrom sure order leads i nodes node r =
+abbrev pub IsClosedFrom : How → List ℕ → List Lead → ℕ → List Node → Node → ℕ → Type 0
+IsClosedFrom how order leads i nodes node r =
     (rank : Rank) → slice_get node.cluster.ranks r ≡ Some rank
     → IsDone (in_slot order) rank
     ⊎ ((e : Step) (new : Cluster) → e.rank ≡ r → e.hart ≡ in_slot order (node.had r) → Leads node.cluster e new
-    → IsReachedFrom sure order leads i nodes (node_of new (one_more node.had r)))
+    → IsReachedFrom how order leads i nodes (node_of new (one_more node.had r)))
 
 -- all harts of the rank are stopped, or wherever its next turn leads is reached
-abbrev pub IsClosedAt : Bool → List ℕ → List Node → Node → ℕ → Type 0
-IsClosedAt sure order nodes node r =
+abbrev pub IsClosedAt : How → List ℕ → List Node → Node → ℕ → Type 0
+IsClosedAt how order nodes node r =
     (rank : Rank) → slice_get node.cluster.ranks r ≡ Some rank
     → IsDone (in_slot order) rank
     ⊎ ((e : Step) (new : Cluster) → e.rank ≡ r → e.hart ≡ in_slot order (node.had r) → Leads node.cluster e new
-    → Reaches sure order nodes (node_of new (one_more node.had r)))
+    → Reaches how order nodes (node_of new (one_more node.had r)))

@@ -1,17 +1,19 @@
 -- What an exploration tells.
 use Rattle.std.specs.Prelude.{ℕ, ◌+◌, ◌<◌, ◌≤◌, ◌≡◌, ◌⊎◌, List, [], ◌∷◌, ◌++◌, length, slice_get, Option, Some, None, Bool, true, false}
-use Rattle.rv_image.specs.Image.{IsImage}
-use Rattle.rv_image.specs.declared.images.ImageParts.{ImageParts}
+use Rattle.rv_image_types.specs.Image.{IsImage}
+use Rattle.rv_image_types.specs.declared.images.ImageParts.{ImageParts}
 use Rattle.cl_machine.specs.Cluster.{Cluster, IsRun}
 use Rattle.cl_machine.specs.declared.steps.Step.{Step}
 use Rattle.cl_turns.specs.declared.Turn.{Turn}
 use Rattle.cl_order_laws.specs.Alike.{hub_of}
 use Rattle.cl_order_laws.specs.Closed.{FollowPlans, IsEnd, Node}
-use Rattle.cl_order_laws.specs.Laws.{AreAlike}
+use Rattle.cl_contests.specs.Below.{Wild}
+use Rattle.cl_contests.specs.Below.{AreAlike}
 use Rattle.cl_moves.specs.Standing.{IsWay, StandsAt, by_order, first_node}
 use Rattle.cl_moves.specs.declared.standing.Standing.{Standing}
 use Rattle.cl_explore.specs.Companies.{IsCompanyAt, IsJudged}
-use Rattle.cl_explore.specs.Covering.{AreLeads, AreNodes, HasRoom, IsClosedAt, IsClosedFrom, Reaches}
+use Rattle.cl_explore.specs.Covering.{AreLeads, AreNodes, IsClosedAt, IsClosedFrom, Reaches}
+use Rattle.cl_explore.specs.How.{HasRoom, How, IsFitFor, IsUncontested, MayBegin, plainly}
 use Rattle.cl_explore.specs.Orders.{IsOrderedWay}
 use Rattle.cl_explore.specs.declared.companies.Company.{Company}
 use Rattle.cl_explore.specs.declared.exploring.Exploration.{Exploration}
@@ -25,6 +27,10 @@ AreEnds order nodes ends =
     (k i : ℕ) → slice_get ends k ≡ Some i
     → (node : Node) × (slice_get nodes i ≡ Some node) × IsEnd (by_order order) node.cluster
 
+-- the same but for clocks, stamps, the numbers of posts, and the order of unreceived messages from different sources
+abbrev pub AreAlikeEnds : Cluster → Cluster → Type 0
+AreAlikeEnds a b = (wild : Wild) × AreAlike wild a b
+
 -- of whatever run of the machine from the start follows the order, and after which nobody goes on, the last cluster is
 -- alike one of those that are told
 abbrev pub AreAllEnds : List ℕ → Node → List Node → List ℕ → Type 0
@@ -32,7 +38,7 @@ AreAllEnds order start nodes ends =
     (steps : List Step) (end : Cluster) → IsRun start.cluster steps end
     → FollowPlans (by_order order) start.had steps → IsEnd (by_order order) end
     → (k : ℕ) × (i : ℕ) × (node : Node) × (slice_get ends k ≡ Some i) × (slice_get nodes i ≡ Some node)
-    × AreAlike end node.cluster
+    × AreAlikeEnds end node.cluster
 
 -- what a search found: the nodes that are kept, which of them are ends, which ranks are stuck in which of them, between
 -- which of them moves led, and how many are left whose moves weren't made
@@ -63,14 +69,16 @@ IsVisitedNode nodes left i node = (i + left < length nodes) × (slice_get nodes 
 pub record ExploredFrom (image : ImageParts) (order : List ℕ) (start : Node) (found : Findings) : Type 0 where
   pub nodes : List Node
   pub are : AreNodes image order found.kept nodes
-  pub sure : Bool
-  pub start_is : Reaches sure order nodes start
-  pub room : HasRoom sure (hub_of start.cluster.journal)
+  pub how : How
+  pub start_is : Reaches how order nodes start
+  pub begins : MayBegin how image order start
+  pub room : HasRoom how (hub_of start.cluster.journal)
   pub leads : AreLeads order nodes found.leads
   pub follows : (i r : ℕ) (node : Node) → IsVisitedNode nodes found.left i node
-      → IsClosedFrom sure order found.leads i nodes node r
-  pub closed : (i r : ℕ) (node : Node) → IsVisitedNode nodes found.left i node → IsClosedAt sure order nodes node r
-  pub few : (i : ℕ) (node : Node) → IsVisitedNode nodes found.left i node → HasRoom sure (hub_of node.cluster.journal)
+      → IsClosedFrom how order found.leads i nodes node r
+  pub closed : (i r : ℕ) (node : Node) → IsVisitedNode nodes found.left i node → IsClosedAt how order nodes node r
+  pub few : (i : ℕ) (node : Node) → IsVisitedNode nodes found.left i node → HasRoom how (hub_of node.cluster.journal)
+  pub fit : (i : ℕ) (node : Node) → IsVisitedNode nodes found.left i node → IsFitFor how node.cluster
   pub sound : AreEnds order nodes found.ends
   pub told : (i : ℕ) (node : Node) → IsVisitedNode nodes found.left i node → IsEnd (by_order order) node.cluster
       → (k : ℕ) × (slice_get found.ends k ≡ Some i)
@@ -86,14 +94,14 @@ Explored image order found = ExploredFrom image order (first_node image) found
 
 -- without calls that are made at once
 abbrev pub ExploredPlainly : ImageParts → List ℕ → Findings → Type 0
-ExploredPlainly image order found = (explored : Explored image order found) × (explored.sure ≡ false)
+ExploredPlainly image order found = (explored : Explored image order found) × (explored.how ≡ plainly)
 
 -- whichever node it is at which the search begins, and to which its steps led from the loaded cluster
-abbrev pub ExploresFrom : Bool → List ℕ → Standing → Findings → Type 0
-ExploresFrom sure order standing found =
+abbrev pub ExploresFrom : How → List ℕ → Standing → Findings → Type 0
+ExploresFrom how order standing found =
     (image : ImageParts) (here : Node) → StandsAt image standing here
-    → IsWay (by_order order) (first_node image) standing.steps.items here
-    → (explored : ExploredFrom image order here found) × (explored.sure ≡ sure)
+    → IsWay (by_order order) (first_node image) standing.steps.items here → MayBegin how image order here
+    → (explored : ExploredFrom image order here found) × (explored.how ≡ how)
 
 -- from where these turns lead
 pub record ExploredBehind (image : ImageParts) (order : List ℕ) (turns : List Turn) (found : Findings) : Type 0 where
@@ -101,6 +109,7 @@ pub record ExploredBehind (image : ImageParts) (order : List ℕ) (turns : List 
   pub start : Node
   pub ordered : IsOrderedWay image order turns steps start
   pub explored : ExploredFrom image order start found
+  pub uncontested : IsUncontested explored.how
 
 -- turns that lead to whichever node is kept at this number
 abbrev pub AreTurnsTo : List KeptNode → ℕ → List Turn → Type 0
@@ -131,19 +140,19 @@ IsBounded states enough most kept left =
 -- ---- on the way
 
 -- what is kept reaches the start, and no move has led anywhere
-pub record BeginsWell (sure : Bool) (image : ImageParts) (order : List ℕ) (start : Node) (search : Search)
+pub record BeginsWell (how : How) (image : ImageParts) (order : List ℕ) (start : Node) (search : Search)
     : Type 0 where
   pub nodes : List Node
   pub are : AreNodes image order search.nodes.items nodes
   pub still : search.leads.items ≡ []
-  pub start_is : Reaches sure order nodes start
+  pub start_is : Reaches how order nodes start
 
 -- whichever node the standing is, to which its steps led from the loaded cluster
-abbrev pub BeginsAt : Bool → List ℕ → Standing → Search → Type 0
-BeginsAt sure order standing search =
+abbrev pub BeginsAt : How → List ℕ → Standing → Search → Type 0
+BeginsAt how order standing search =
     (image : ImageParts) (here : Node) → StandsAt image standing here
     → IsWay (by_order order) (first_node image) standing.steps.items here
-    → BeginsWell sure image order here search
+    → BeginsWell how image order here search
 
 -- a node is noted behind the others if it is an end
 abbrev pub Notes : List ℕ → Bool → ℕ → List ℕ → Type 0

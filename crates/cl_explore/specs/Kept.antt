@@ -1,6 +1,6 @@
 -- Nodes that are kept, and standings that are alike one.
 use Rattle.std.specs.Prelude.{ℕ, zero, suc, ◌≡◌, ◌<◌, ◌%◌, ◌⊎◌, List, [], length, map, slice_get, Some}
-use Rattle.rv_image.specs.declared.images.ImageParts.{ImageParts}
+use Rattle.rv_image_types.specs.declared.images.ImageParts.{ImageParts}
 use Rattle.cl_machine.specs.declared.steps.Step.{Step}
 use Rattle.cl_record.specs.Plans.{in_slot}
 use Rattle.cl_state.specs.Room.{rank_of}

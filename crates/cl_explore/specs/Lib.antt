@@ -1,3 +1,4 @@
+pub mod How
 pub mod Kept
 pub mod Covering
 pub mod Companies
@@ -8,3 +9,4 @@ pub mod Visiting
 pub mod Runs
 pub mod Likeness
 pub mod Sorting
+pub mod Below

@@ -1,7 +1,7 @@
 -- What a search has done.
-use Rattle.std.specs.Prelude.{ℕ, ◌≡◌, ◌<◌, ◌^◌, ◌↔◌, List, length, option_map, slice_get, Some, Bool, true}
-use Rattle.rv_image.specs.Image.{IsImage}
-use Rattle.rv_image.specs.declared.images.ImageParts.{ImageParts}
+use Rattle.std.specs.Prelude.{ℕ, ◌≡◌, ◌<◌, ◌^◌, ◌↔◌, List, [], ◌∷◌, length, option_map, slice_get, Some, true}
+use Rattle.rv_image_types.specs.Image.{IsImage}
+use Rattle.rv_image_types.specs.declared.images.ImageParts.{ImageParts}
 use Rattle.cl_record.specs.Plans.{in_slot}
 use Rattle.cl_deadlock.specs.Why.{IsVerdictOf}
 use Rattle.cl_machine.specs.declared.steps.Step.{Step}
@@ -9,6 +9,8 @@ use Rattle.cl_order_laws.specs.Closed.{IsEnd, Node}
 use Rattle.cl_order_laws.specs.Laws.{IsReached}
 use Rattle.cl_moves.specs.Standing.{IsWay, StandsAt, by_order}
 use Rattle.cl_moves.specs.declared.standing.Standing.{Standing}
+use Rattle.cl_contest_laws.specs.Below.{AreAlikeNodes}
+use Rattle.cl_explore.specs.How.{How, IsFitFor}
 use Rattle.cl_explore.specs.Kept.{AreSamePlaces, IsAlikeKept, IsBefore, IsLiveAt}
 use Rattle.cl_explore.specs.Covering.{AreLeads, AreNodes, Grows, IsAlikeAt, IsClosedFrom, IsReachedTurn, LeadsGrow, Reaches}
 use Rattle.cl_explore.specs.declared.kept.KeptNode.{KeptNode}
@@ -71,47 +73,48 @@ KeepsAt order old n live new after Needs P =
     → slice_get nodes n ≡ Some node → IsLiveAt image live node → Needs node
     → FindsMore image order old nodes new (λ more. P more node) × IsLiveAt image after node
 
--- turns that are taken at once led from whichever node the old standing was to one that the new standing is, and what
--- reaches the one reaches the other
-abbrev pub GoesOn : Bool → List ℕ → Standing → Standing → Type 0
-GoesOn sure order old new =
+-- turns that are taken at once led from whichever node the old standing was to one that the new standing is, and each
+-- node that is alike the one reaches the other
+abbrev pub GoesOn : How → List ℕ → Standing → Standing → Type 0
+GoesOn how order old new =
     (image : ImageParts) (start here : Node) → StandsAt image old here → IsWay (by_order order) start old.steps.items here
     → IsReached start.cluster
     → (there : Node) × StandsAt image new there × IsWay (by_order order) start new.steps.items there
-    × ((nodes : List Node) → Reaches sure order nodes there → Reaches sure order nodes here)
+    × ((node : Node) → AreAlikeNodes (by_order order) there node → Reaches how order (node ∷ []) here)
 
 -- where it is one, wherever it leads is reached then by a node to which a move led
-abbrev pub Goes : Bool → List ℕ → Search → ℕ → Standing → Step → Search → Standing → Type 0
-Goes sure order old n live e new after =
+abbrev pub Goes : How → List ℕ → Search → ℕ → Standing → Step → Search → Standing → Type 0
+Goes how order old n live e new after =
     KeepsAt order old n live new after (λ node. IsPlanned order node e)
-    (λ more node. IsReachedTurn sure order new.leads.items n more node e)
+    (λ more node. IsReachedTurn how order new.leads.items n more node e)
 
 abbrev pub ArePlanned : List ℕ → Node → List Step → Type 0
 ArePlanned order node turns = (i : ℕ) (e : Step) → slice_get turns i ≡ Some e → IsPlanned order node e
 
-abbrev pub AreReached : Bool → List ℕ → List Lead → ℕ → List Step → List Node → Node → Type 0
-AreReached sure order leads n turns nodes node =
-    (i : ℕ) (e : Step) → slice_get turns i ≡ Some e → IsReachedTurn sure order leads n nodes node e
+abbrev pub AreReached : How → List ℕ → List Lead → ℕ → List Step → List Node → Node → Type 0
+AreReached how order leads n turns nodes node =
+    (i : ℕ) (e : Step) → slice_get turns i ≡ Some e → IsReachedTurn how order leads n nodes node e
 
 -- and so of each of these turns
-abbrev pub GoesEach : Bool → List ℕ → Search → ℕ → Standing → List Step → Search → Standing → Type 0
-GoesEach sure order old n live turns new after =
+abbrev pub GoesEach : How → List ℕ → Search → ℕ → Standing → List Step → Search → Standing → Type 0
+GoesEach how order old n live turns new after =
     KeepsAt order old n live new after (λ node. ArePlanned order node turns)
-    (λ more node. AreReached sure order new.leads.items n turns more node)
+    (λ more node. AreReached how order new.leads.items n turns more node)
 
 -- the first so many ranks of a node are closed
-abbrev pub AreClosedBelow : Bool → List ℕ → List Lead → ℕ → ℕ → List Node → Node → Type 0
-AreClosedBelow sure order leads n count nodes node = (r : ℕ) → r < count → IsClosedFrom sure order leads n nodes node r
+abbrev pub AreClosedBelow : How → List ℕ → List Lead → ℕ → ℕ → List Node → Node → Type 0
+AreClosedBelow how order leads n count nodes node = (r : ℕ) → r < count → IsClosedFrom how order leads n nodes node r
 
--- each rank is, and it is told whether nobody goes on, and which ranks are stuck
-pub record IsVisited (sure : Bool) (order : List ℕ) (leads : List Lead) (n : ℕ) (visit : Visit) (image : ImageParts)
+-- each rank is, and it is told whether nobody goes on, and which ranks are stuck; and all ranks may be let go there
+pub record IsVisited (how : How) (order : List ℕ) (leads : List Lead) (n : ℕ) (visit : Visit) (image : ImageParts)
     (nodes : List Node) (node : Node) : Type 0 where
-  pub closed : (r : ℕ) → IsClosedFrom sure order leads n nodes node r
+  pub closed : (r : ℕ) → IsClosedFrom how order leads n nodes node r
   pub end : (visit.end ≡ true) ↔ IsEnd (by_order order) node.cluster
   pub stuck : IsImage image → IsVerdictOf node.cluster (option_map (λ ranks. ranks.items) visit.stuck)
+  pub fit : IsFitFor how node.cluster
 
 -- where a standing is the node, the rank is closed
-abbrev pub ClosesRank : Bool → List ℕ → Search → ℕ → Standing → ℕ → Search → Standing → Type 0
-ClosesRank sure order old n live rank new after =
+abbrev pub ClosesRank : How → List ℕ → Search → ℕ → Standing → ℕ → Search → Standing → Type 0
+ClosesRank how order old n live rank new after =
     KeepsAt order old n live new after (λ node. Unit {0})
-    (λ more node. IsClosedFrom sure order new.leads.items n more node rank)
+    (λ more node. IsClosedFrom how order new.leads.items n more node rank)

@@ -1,5 +1,6 @@
 //! What a search goes by.
 
+use cl_contests::Patterns;
 use std::alloc::Global;
 
 /// The order of the harts of each rank, and how many turns a rank takes by itself at once.
@@ -10,11 +11,23 @@ pub struct Course<'a> {
     pub most: u64,
 }
 
-/// The same, and whether calls for what is there are made at once.
+/// Which turns are taken at once, beside those that need only their rank.
+#[derive(Clone, Copy, Drop)]
+pub(crate) enum Way {
+    /// No others.
+    Plainly,
+    /// Calls for what is there.
+    AtOnce,
+    /// Turns that nobody contests.
+    First,
+}
+
+/// The same as a course, and which turns are taken at once, by the patterns of all ranks where that matters.
 #[derive(Clone, Copy, Drop)]
 pub(crate) struct Manner<'a> {
     pub alloc: Global,
     pub order: &'a [u8],
     pub most: u64,
-    pub sure: bool,
+    pub way: Way,
+    pub patterns: &'a Patterns,
 }

@@ -1,31 +1,40 @@
 //! The search from the loaded cluster on.
 
 ghost use Rattle.std.specs.Prelude.{◌≡◌, ◌⊎◌, ◌<◌, ◌≤◌, ◌-◌, ℕ, List, [], None, Some, IfErr, IfOk, IfSome, IsFalse, IsTrue, OnOk, false, is_some, length, reverse, slice_get, true};
-ghost use Rattle.rv_image.specs.declared.images.ImageParts.{ImageParts};
+ghost use Rattle.rv_image_types.specs.declared.images.ImageParts.{ImageParts};
 ghost use Rattle.cl_order_laws.specs.Closed.{Node};
 ghost use Rattle.cl_moves.specs.Standing.{IsWay, by_order, first_node};
 ghost use Rattle.cl_moves.specs.declared.standing.Standing.{Standing as StandingView};
-ghost use Rattle.cl_explore.specs.Covering.{AreNodes, HasRoom, HasRoomAt};
+ghost use Rattle.cl_explore.specs.Covering.{AreNodes, HasRoomAt};
+ghost use Rattle.cl_contests.specs.Going.{IsFirstHart};
+ghost use Rattle.cl_contests.specs.declared.patterns.AskedBy.{AskedBy};
+ghost use Rattle.cl_explore.specs.How.{HasRoom, IsHaltOf, at_once, how_in, how_of, plainly};
+ghost use Rattle.cl_explore.specs.declared.course.Way.TheVariants as ways;
 ghost use Rattle.cl_explore.specs.Ends.{AreEnough, AreTurnsTo, BeginsAt, Explored, ExploredBehind, ExploredPlainly, ExploresFrom, HasLonger, IsBounded, IsLonger, Notes, findings};
 ghost use Rattle.cl_explore.specs.Visiting.{NotesVisit, findings_of};
 ghost use Rattle.cl_explore.specs.Orders.{OrderFaultHolds};
 
 use crate::companies::{Company, note_stuck};
-use crate::course::{Course, Manner};
+use crate::course::{Course, Manner, Way};
+use crate::halt::Halt;
 use crate::kept::KeptNode;
 use crate::leads::Lead;
 use crate::moving::{Visit, settle};
 use crate::orders::{OrderFault, follow, turns_in};
 use crate::search::Search;
+use cl_contests::{Patterns, is_first_hart};
 use cl_machine::Step;
 use cl_moves::{MoveFault, Standing};
 use cl_turns::Turn;
 use mp_alike::WholeHub;
-use rv_image::Image;
+use rv_image_types::Image;
 use std::alloc::{AllocError, Global};
 
 /// How many posts are too many beside calls that are made at once: a hub holds one message more.
 const MOST_POSTS: u64 = 65535;
+
+/// How often a search begins again with more patterns: more often than there are patterns of all ranks.
+const MOST_PASSES: usize = 2048;
 
 /// Of how many nodes the moves are made at most of which one led to a new node by more turns of a rank's own than it was let
 /// take at once: a rank that counts would lead to new nodes without end.
@@ -92,15 +101,38 @@ fn begin(
     course: &Manner<'_>,
     search: &mut Search,
     standing: &mut Standing,
-) -> Result<Option<u8>, MoveFault>
+) -> Result<Option<u8>, Halt>
     requires order { 0 < length course.now.order.now }
     requires none { search.old.nodes.items ≡ [] }
     requires still { search.old.leads.items ≡ [] }
-    ensures { OnOk result (BeginsAt course.now.sure course.now.order.now standing.old search.new) }
+    ensures begins { OnOk result (BeginsAt (how_in course.now) course.now.order.now standing.old search.new) }
+    ensures halt { IfErr result (IsHaltOf course.now.way) }
 {
-    let long = settle(course, standing)?;
+    let long = settle(course, standing, &mut search.missing)?;
     let _first = search.arrive(course, standing, 0, 0)?;
     Ok(long)
+}
+
+/// The moves of all nodes from a standing on, within bounds.
+fn search_nodes(
+    course: &Manner<'_>,
+    search: &mut Search,
+    standing: &mut Standing,
+    bounds: Bounds,
+) -> Result<Option<Told>, Halt>
+    requires order { 0 < length course.now.order.now }
+    requires none { search.old.nodes.items ≡ [] }
+    requires still { search.old.leads.items ≡ [] }
+    requires room { HasRoom (how_in course.now) standing.old.whole }
+    ensures ends { IfOk result (λ o. IfSome o (λ told.
+        ExploresFrom (how_in course.now) course.now.order.now standing.old (findings_of search.new told))) }
+    ensures most { IfOk result (λ o. IfSome o (λ told.
+        IsBounded bounds.states bounds.enough course.now.most search.new.nodes.items told.left)) }
+    ensures plain { course.now.way ≡ ways.Plainly → IfOk result (λ o. is_some o ≡ true) }
+    ensures halt { IfErr result (IsHaltOf course.now.way) }
+{
+    let long = begin(course, search, standing)?;
+    visit_each(course, search, long, bounds)
 }
 
 /// Notes a node if it is an end.
@@ -114,21 +146,24 @@ fn note(ends: &mut Vec<usize>, end: bool, node: usize) -> Result<(), AllocError>
 }
 
 /// Whether calls for what is there may be made at once beside as many posts, if they are to be.
-fn has_room(sure: bool, whole: &WholeHub) -> bool
-    ensures room { IsTrue result → HasRoom sure whole.now }
-    ensures plain { sure ≡ false → result ≡ true }
+fn has_room(way: Way, whole: &WholeHub) -> bool
+    ensures room { IsTrue result → (kept : List AskedBy) → HasRoom (how_of way kept) whole.now }
+    ensures plain { way ≡ ways.Plainly → result ≡ true }
 {
-    !sure || whole.board().next_number() <= MOST_POSTS
+    match way {
+        Way::Plainly | Way::First => true,
+        Way::AtOnce => whole.board().next_number() <= MOST_POSTS,
+    }
 }
 
 /// The same of the node of this number.
-fn has_room_at(sure: bool, nodes: &[KeptNode], node: usize) -> bool
-    ensures room { IsTrue result → HasRoomAt sure nodes.now node }
-    ensures plain { sure ≡ false → result ≡ true }
+fn has_room_at(way: Way, nodes: &[KeptNode], node: usize) -> bool
+    ensures room { IsTrue result → (kept : List AskedBy) → HasRoomAt (how_of way kept) nodes.now node }
+    ensures plain { way ≡ ways.Plainly → result ≡ true }
 {
     match nodes.get(node) {
         None => true,
-        Some(kept) => has_room(sure, &kept.whole),
+        Some(kept) => has_room(way, &kept.whole),
     }
 }
 
@@ -179,14 +214,15 @@ fn visit_each(
     search: &mut Search,
     long: Option<u8>,
     bounds: Bounds,
-) -> Result<Option<Told>, MoveFault>
+) -> Result<Option<Told>, Halt>
     requires { 0 < length course.now.order.now }
-    ensures ends { IfOk result (λ o. IfSome o (λ told. (standing : StandingView) → HasRoom course.now.sure standing.whole
-        → BeginsAt course.now.sure course.now.order.now standing search.old
-        → ExploresFrom course.now.sure course.now.order.now standing (findings_of search.new told))) }
+    ensures ends { IfOk result (λ o. IfSome o (λ told. (standing : StandingView) → HasRoom (how_in course.now) standing.whole
+        → BeginsAt (how_in course.now) course.now.order.now standing search.old
+        → ExploresFrom (how_in course.now) course.now.order.now standing (findings_of search.new told))) }
     ensures most { IfOk result (λ o. IfSome o (λ told.
         IsBounded bounds.states bounds.enough course.now.most search.new.nodes.items told.left)) }
-    ensures plain { course.now.sure ≡ false → IfOk result (λ o. is_some o ≡ true) }
+    ensures plain { course.now.way ≡ ways.Plainly → IfOk result (λ o. is_some o ≡ true) }
+    ensures halt { IfErr result (IsHaltOf course.now.way) }
 {
     let mut noted = Noted {
         ends: Vec::new(course.alloc),
@@ -199,7 +235,7 @@ fn visit_each(
         && goes_on(bounds.enough, done, search.nodes.len())
         && !is_deep(noted.deep, search.nodes.as_slice(), course.most)
     {
-        if !has_room_at(course.sure, search.nodes.as_slice(), done) {
+        if !has_room_at(course.way, search.nodes.as_slice(), done) {
             return Ok(None);
         }
         let visit = search.visit(course, done)?;
@@ -212,26 +248,34 @@ fn visit_each(
 
 /// All clusters to which any order of turns leads from a standing, but for those that are alike one of them, and which of
 /// them are ends: breadth first, ranks in order. None where calls for what is there are made at once, and a hub came to
-/// have too many posts for that. The standing may be anything then.
+/// have too many posts for that. The standing may be anything then. What ranks asked beside the patterns is left in
+/// `missing` where the search was halted for that.
 fn search_on(
     course: &Manner<'_>,
     standing: &mut Standing,
     bounds: Bounds,
-) -> Result<Option<Exploration>, MoveFault>
+    missing: &mut Patterns,
+) -> Result<Option<Exploration>, Halt>
     requires { 0 < length course.now.order.now }
     ensures ends { IfOk result (λ o. IfSome o (λ found.
-        ExploresFrom course.now.sure course.now.order.now standing.old (findings found))) }
+        ExploresFrom (how_in course.now) course.now.order.now standing.old (findings found))) }
     ensures most { IfOk result (λ o. IfSome o (λ found.
         IsBounded bounds.states bounds.enough course.now.most found.nodes.items found.left)) }
-    ensures plain { course.now.sure ≡ false → IfOk result (λ o. is_some o ≡ true) }
+    ensures plain { course.now.way ≡ ways.Plainly → IfOk result (λ o. is_some o ≡ true) }
+    ensures halt { IfErr result (IsHaltOf course.now.way) }
 {
-    if !has_room(course.sure, &standing.whole) {
+    if !has_room(course.way, &standing.whole) {
         return Ok(None);
     }
     let mut search = Search::new(course.alloc)?;
-    let long = begin(course, &mut search, standing)?;
-    let Some(told) = visit_each(course, &mut search, long, bounds)? else {
-        return Ok(None);
+    let told = search_nodes(course, &mut search, standing, bounds);
+    let told = match told {
+        Ok(Some(told)) => told,
+        Ok(None) => return Ok(None),
+        Err(halt) => {
+            *missing = search.missing;
+            return Err(halt);
+        }
     };
     Ok(Some(Exploration {
         nodes: search.nodes,
@@ -243,26 +287,51 @@ fn search_on(
     }))
 }
 
-/// The same, with calls that are made at once or without.
+/// The same in this way, by these patterns of all ranks.
 fn search(
     course: &Course<'_>,
     mut standing: Standing,
     bounds: Bounds,
-    sure: bool,
-) -> Result<Option<Exploration>, MoveFault>
+    way: Way,
+    patterns: &Patterns,
+    missing: &mut Patterns,
+) -> Result<Option<Exploration>, Halt>
     requires { 0 < length course.now.order.now }
-    ensures ends { IfOk result (λ o. IfSome o (λ found. ExploresFrom sure course.now.order.now standing (findings found))) }
+    ensures ends { IfOk result (λ o. IfSome o (λ found.
+        ExploresFrom (how_of way patterns.now.kept.items) course.now.order.now standing (findings found))) }
     ensures most { IfOk result (λ o. IfSome o (λ found.
         IsBounded bounds.states bounds.enough course.now.most found.nodes.items found.left)) }
-    ensures plain { sure ≡ false → IfOk result (λ o. is_some o ≡ true) }
+    ensures plain { way ≡ ways.Plainly → IfOk result (λ o. is_some o ≡ true) }
+    ensures halt { IfErr result (IsHaltOf way) }
 {
     let manner = Manner {
         alloc: course.alloc,
         order: course.order,
         most: course.most,
-        sure,
+        way,
+        patterns,
     };
-    search_on(&manner, &mut standing, bounds)
+    search_on(&manner, &mut standing, bounds, missing)
+}
+
+/// The same with calls for what is there made at once.
+fn search_at_once(
+    course: &Course<'_>,
+    standing: Standing,
+    bounds: Bounds,
+) -> Result<Option<Exploration>, MoveFault>
+    requires { 0 < length course.now.order.now }
+    ensures ends { IfOk result (λ o. IfSome o (λ found. ExploresFrom at_once course.now.order.now standing (findings found))) }
+    ensures most { IfOk result (λ o. IfSome o (λ found.
+        IsBounded bounds.states bounds.enough course.now.most found.nodes.items found.left)) }
+{
+    let none = Patterns::new(course.alloc);
+    let mut missing = Patterns::new(course.alloc);
+    match search(course, standing, bounds, Way::AtOnce, &none, &mut missing) {
+        Ok(found) => Ok(found),
+        Err(Halt::Fault(fault)) => Err(fault),
+        Err(Halt::Outside) => unreachable!(),
+    }
 }
 
 /// The same without them.
@@ -272,14 +341,73 @@ fn search_plainly(
     bounds: Bounds,
 ) -> Result<Exploration, MoveFault>
     requires { 0 < length course.now.order.now }
-    ensures ends { IfOk result (λ found. ExploresFrom false course.now.order.now standing (findings found)) }
+    ensures ends { IfOk result (λ found. ExploresFrom plainly course.now.order.now standing (findings found)) }
     ensures most { IfOk result (λ found.
         IsBounded bounds.states bounds.enough course.now.most found.nodes.items found.left) }
 {
-    match search(course, standing, bounds, false)? {
-        Some(found) => Ok(found),
-        None => unreachable!(),
+    let none = Patterns::new(course.alloc);
+    let mut missing = Patterns::new(course.alloc);
+    match search(course, standing, bounds, Way::Plainly, &none, &mut missing) {
+        Ok(Some(found)) => Ok(found),
+        Ok(None) => unreachable!(),
+        Err(Halt::Fault(fault)) => Err(fault),
+        Err(Halt::Outside) => unreachable!(),
     }
+}
+
+/// The same from the loaded cluster, with turns that nobody contests taken first. None where a rank asked beside the
+/// patterns, which is left in `missing`, or where not all ranks may be let go at a cluster in which nobody goes first.
+fn search_first(
+    course: &Course<'_>,
+    image: &Image,
+    bounds: Bounds,
+    patterns: &Patterns,
+    missing: &mut Patterns,
+) -> Result<Option<Exploration>, MoveFault>
+    requires order { 0 < length course.now.order.now }
+    requires first { IsFirstHart course.now.order.now }
+    requires harts { image.now.harts ≡ 1 }
+    ensures ends { IfOk result (λ o. IfSome o (λ found. Explored image.now course.now.order.now (findings found))) }
+    ensures most { IfOk result (λ o. IfSome o (λ found.
+        IsBounded bounds.states bounds.enough course.now.most found.nodes.items found.left)) }
+{
+    let standing = Standing::load(course.alloc, image)?;
+    match search(course, standing, bounds, Way::First, patterns, missing) {
+        Ok(found) => Ok(found),
+        Err(Halt::Fault(fault)) => Err(fault),
+        Err(Halt::Outside) => Ok(None),
+    }
+}
+
+/// The same by the patterns that all ranks turn out to have: while one asks beside those that are known, the search begins
+/// again with these. None where ranks have several harts, where some ask what has no pattern, or where not all may be let go
+/// though nobody goes first.
+fn search_by_patterns(
+    course: &Course<'_>,
+    image: &Image,
+    bounds: Bounds,
+) -> Result<Option<Exploration>, MoveFault>
+    requires { 0 < length course.now.order.now }
+    ensures ends { IfOk result (λ o. IfSome o (λ found. Explored image.now course.now.order.now (findings found))) }
+    ensures most { IfOk result (λ o. IfSome o (λ found.
+        IsBounded bounds.states bounds.enough course.now.most found.nodes.items found.left)) }
+{
+    if image.parts().harts != 1 || !is_first_hart(course.order) {
+        return Ok(None);
+    }
+    let mut patterns = Patterns::new(course.alloc);
+    for _pass in 0..MOST_PASSES {
+        let mut missing = Patterns::new(course.alloc);
+        let found = search_first(course, image, bounds, &patterns, &mut missing)?;
+        if found.is_some() {
+            return Ok(found);
+        }
+        if missing.is_empty() {
+            return Ok(None);
+        }
+        patterns.add_all(&missing)?;
+    }
+    Ok(None)
 }
 
 /// All clusters to which any order of turns leads, but for those that are alike one of them, and which of them are ends:
@@ -298,8 +426,11 @@ pub fn explore(course: &Course<'_>, image: &Image, states: usize) -> Result<Expl
         states,
         enough: None,
     };
+    if let Some(found) = search_by_patterns(course, image, bounds)? {
+        return Ok(found);
+    }
     let standing = Standing::load(course.alloc, image)?;
-    if let Some(found) = search(course, standing, bounds, true)? {
+    if let Some(found) = search_at_once(course, standing, bounds)? {
         return Ok(found);
     }
     let again = Standing::load(course.alloc, image)?;
@@ -349,7 +480,7 @@ pub fn explore_from(
         enough: None,
     };
     let standing = follow(course, image, turns)?;
-    if let Some(found) = search(course, standing, bounds, true)? {
+    if let Some(found) = search_at_once(course, standing, bounds)? {
         return Ok(found);
     }
     let again = follow(course, image, turns)?;

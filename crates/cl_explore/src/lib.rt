@@ -11,6 +11,7 @@ mod candidates;
 mod companies;
 mod course;
 mod exploring;
+mod halt;
 mod kept;
 mod leads;
 mod likeness;

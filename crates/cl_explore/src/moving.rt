@@ -1,16 +1,23 @@
 //! All moves of a node.
 
-ghost use Rattle.std.specs.Prelude.{◌≡◌, ◌<◌, IfOk, OnOk, Some, length, slice_get};
+ghost use Rattle.std.specs.Prelude.{◌≡◌, ◌<◌, IfErr, IfOk, OnOk, Some, length, slice_get};
+ghost use Rattle.rv_image_types.specs.declared.images.ImageParts.{ImageParts};
+ghost use Rattle.cl_order_laws.specs.Closed.{Node};
+ghost use Rattle.cl_moves.specs.Standing.{StandsAt};
+ghost use Rattle.cl_explore.specs.How.{IsFitFor, IsHaltOf, how_in};
 ghost use Rattle.cl_explore.specs.Kept.{IsLiveOf};
 ghost use Rattle.cl_explore.specs.Searching.{ClosesRank, Goes, GoesEach, GoesOn, IsVisited, KeepsOf};
+ghost use Rattle.cl_explore.specs.declared.course.Way.TheVariants as ways;
 ghost use Rattle.cl_explore.specs.declared.kept.KeptNode.{KeptNode as KeptView};
 
-use crate::course::Manner;
+use crate::course::{Manner, Way};
+use crate::halt::Halt;
 use crate::leads::Lead;
 use crate::search::Search;
+use cl_contests::{Patterns, go_first, is_first_hart, is_fit};
 use cl_deadlock::deadlock;
 use cl_machine::Step;
-use cl_moves::{MoveFault, Standing, is_done, is_end, turns_of};
+use cl_moves::{Standing, is_done, is_end, turns_of};
 
 /// What is known of a node once its moves were made.
 #[derive(Drop)]
@@ -46,30 +53,99 @@ fn if_long(rank: u8, long: bool) -> Option<u8> {
     if long { Some(rank) } else { None }
 }
 
-/// Takes the turns behind one of this rank that are taken at once: those that need only the rank, and calls for what is
-/// there, where these are. Answers whether the rank took fewer by itself than it was let.
-fn go_on(course: &Manner<'_>, live: &mut Standing, rank: u8) -> Result<bool, MoveFault>
-    requires { 0 < length course.now.order.now }
-    ensures { OnOk result (GoesOn course.now.sure course.now.order.now live.old live.new) }
+/// Takes turns that nobody contests, one after another, where this rank moved, or where none has yet. Answers the first
+/// rank that would take more by itself, if there is one. What is asked beside the patterns is added to `missing`.
+fn go_uncontested(
+    course: &Manner<'_>,
+    live: &mut Standing,
+    whose: Option<u8>,
+    missing: &mut Patterns,
+) -> Result<Option<u8>, Halt>
+    requires order { 0 < length course.now.order.now }
+    requires way { course.now.way ≡ ways.First }
+    ensures on { OnOk result (GoesOn (how_in course.now) course.now.order.now live.old live.new) }
+    ensures halt { IfErr result (IsHaltOf course.now.way) }
 {
-    let fewer = live.go_ahead(rank, course.order, course.most)?;
-    if course.sure {
-        live.go_surely(course.alloc, course.order, course.most)?;
+    if !is_first_hart(course.order) {
+        return Err(Halt::Outside);
     }
-    Ok(fewer)
+    let went = go_first(
+        course.alloc,
+        live,
+        course.most,
+        whose,
+        course.patterns,
+        missing,
+    )?;
+    if !went.within {
+        return Err(Halt::Outside);
+    }
+    Ok(went.long)
+}
+
+/// Takes the turns behind one of this rank that are taken at once. Answers whether the rank took fewer by itself than it
+/// was let.
+fn go_on(
+    course: &Manner<'_>,
+    live: &mut Standing,
+    rank: u8,
+    missing: &mut Patterns,
+) -> Result<bool, Halt>
+    requires { 0 < length course.now.order.now }
+    ensures on { OnOk result (GoesOn (how_in course.now) course.now.order.now live.old live.new) }
+    ensures halt { IfErr result (IsHaltOf course.now.way) }
+{
+    match course.way {
+        Way::Plainly => Ok(live.go_ahead(rank, course.order, course.most)?),
+        Way::AtOnce => {
+            let fewer = live.go_ahead(rank, course.order, course.most)?;
+            live.go_surely(course.alloc, course.order, course.most)?;
+            Ok(fewer)
+        }
+        Way::First => {
+            let long = go_uncontested(course, live, Some(rank), missing)?;
+            Ok(long.is_none())
+        }
+    }
 }
 
 /// Lets each rank take its turns that are taken at once. Answers the first rank that would take more by itself, if there
 /// is one.
-pub(crate) fn settle(course: &Manner<'_>, live: &mut Standing) -> Result<Option<u8>, MoveFault>
+pub(crate) fn settle(
+    course: &Manner<'_>,
+    live: &mut Standing,
+    missing: &mut Patterns,
+) -> Result<Option<u8>, Halt>
     requires { 0 < length course.now.order.now }
-    ensures { OnOk result (GoesOn course.now.sure course.now.order.now live.old live.new) }
+    ensures on { OnOk result (GoesOn (how_in course.now) course.now.order.now live.old live.new) }
+    ensures halt { IfErr result (IsHaltOf course.now.way) }
 {
-    let long = live.settle(course.order, course.most)?;
-    if course.sure {
-        live.go_surely(course.alloc, course.order, course.most)?;
+    match course.way {
+        Way::Plainly => Ok(live.settle(course.order, course.most)?),
+        Way::AtOnce => {
+            let long = live.settle(course.order, course.most)?;
+            live.go_surely(course.alloc, course.order, course.most)?;
+            Ok(long)
+        }
+        Way::First => go_uncontested(course, live, None, missing),
     }
-    Ok(long)
+}
+
+/// Refuses a standing from which not all ranks may be let go, where that matters.
+fn check_fit(course: &Manner<'_>, live: &Standing) -> Result<(), Halt>
+    ensures fit { IfOk result (λ done. (image : ImageParts) (here : Node) → StandsAt image live.now here
+        → IsFitFor (how_in course.now) here.cluster) }
+    ensures halt { IfErr result (IsHaltOf course.now.way) }
+{
+    match course.way {
+        Way::Plainly | Way::AtOnce => Ok(()),
+        Way::First => {
+            if is_fit(live, course.patterns)? {
+                return Ok(());
+            }
+            Err(Halt::Outside)
+        }
+    }
 }
 
 impl Search {
@@ -82,9 +158,10 @@ impl Search {
         node: usize,
         live: &mut Standing,
         turn: Step,
-    ) -> Result<bool, MoveFault>
+    ) -> Result<bool, Halt>
         requires { 0 < length course.now.order.now }
-        ensures { OnOk result (Goes course.now.sure course.now.order.now self.old node live.old turn self.new live.new) }
+        ensures goes { OnOk result (Goes (how_in course.now) course.now.order.now self.old node live.old turn self.new live.new) }
+        ensures halt { IfErr result (IsHaltOf course.now.way) }
     {
         if node >= self.nodes.len() {
             return Ok(false);
@@ -95,7 +172,7 @@ impl Search {
             kept.renew(course.alloc, live)?;
             return Ok(false);
         }
-        let fewer = go_on(course, live, rank)?;
+        let fewer = go_on(course, live, rank, &mut self.missing)?;
         let count = self.nodes.len();
         let to = self.arrive(course, live, node, usize::from(rank))?;
         self.leads.push(Lead { from: node, to })?;
@@ -115,9 +192,10 @@ impl Search {
         node: usize,
         live: &mut Standing,
         mut turns: Vec<Step>,
-    ) -> Result<bool, MoveFault>
+    ) -> Result<bool, Halt>
         requires { 0 < length course.now.order.now }
-        ensures { OnOk result (GoesEach course.now.sure course.now.order.now self.old node live.old turns.items self.new live.new) }
+        ensures each { OnOk result (GoesEach (how_in course.now) course.now.order.now self.old node live.old turns.items self.new live.new) }
+        ensures halt { IfErr result (IsHaltOf course.now.way) }
     {
         let mut long = false;
         'rest: loop {
@@ -139,9 +217,10 @@ impl Search {
         node: usize,
         live: &mut Standing,
         rank: u8,
-    ) -> Result<Option<u8>, MoveFault>
+    ) -> Result<Option<u8>, Halt>
         requires { 0 < length course.now.order.now }
-        ensures { OnOk result (ClosesRank course.now.sure course.now.order.now self.old node live.old rank self.new live.new) }
+        ensures closes { OnOk result (ClosesRank (how_in course.now) course.now.order.now self.old node live.old rank self.new live.new) }
+        ensures halt { IfErr result (IsHaltOf course.now.way) }
     {
         let place = usize::from(rank);
         if place >= live.cluster.ranks.len() {
@@ -165,12 +244,14 @@ impl Search {
         course: &Manner<'_>,
         node: usize,
         live: &mut Standing,
-    ) -> Result<Visit, MoveFault>
+    ) -> Result<Visit, Halt>
         requires { 0 < length course.now.order.now }
-        ensures { (kept : KeptView) → slice_get self.old.nodes.items node ≡ Some kept → IsLiveOf kept live.old
+        ensures visits { (kept : KeptView) → slice_get self.old.nodes.items node ≡ Some kept → IsLiveOf kept live.old
             → IfOk result (λ visit. KeepsOf course.now.order.now self.old node self.new
-            (IsVisited course.now.sure course.now.order.now self.new.leads.items node visit)) }
+            (IsVisited (how_in course.now) course.now.order.now self.new.leads.items node visit)) }
+        ensures halt { IfErr result (IsHaltOf course.now.way) }
     {
+        check_fit(course, live)?;
         let end = is_end(&live.cluster, course.order)?;
         let mut long = None;
         // an image has at most 8 ranks
@@ -184,10 +265,11 @@ impl Search {
     }
 
     /// All moves of a node. Answers whether nobody goes on there, and who is stuck.
-    pub(crate) fn visit(&mut self, course: &Manner<'_>, node: usize) -> Result<Visit, MoveFault>
+    pub(crate) fn visit(&mut self, course: &Manner<'_>, node: usize) -> Result<Visit, Halt>
         requires { 0 < length course.now.order.now }
-        ensures { IfOk result (λ visit. KeepsOf course.now.order.now self.old node self.new
-            (IsVisited course.now.sure course.now.order.now self.new.leads.items node visit)) }
+        ensures visits { IfOk result (λ visit. KeepsOf course.now.order.now self.old node self.new
+            (IsVisited (how_in course.now) course.now.order.now self.new.leads.items node visit)) }
+        ensures halt { IfErr result (IsHaltOf course.now.way) }
     {
         if node >= self.nodes.len() {
             return Ok(Visit {

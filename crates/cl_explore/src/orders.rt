@@ -1,7 +1,7 @@
 //! Turns of an order, taken one after another from the loaded cluster on.
 
 ghost use Rattle.std.specs.Prelude.{◌≡◌, ◌<◌, IfErr, IfOk, OnOk, length, map};
-ghost use Rattle.rv_image.specs.declared.images.ImageParts.{ImageParts};
+ghost use Rattle.rv_image_types.specs.declared.images.ImageParts.{ImageParts};
 ghost use Rattle.cl_order_laws.specs.Orders.{is_miss, turn_of};
 ghost use Rattle.cl_moves.specs.Standing.{IsStart};
 ghost use Rattle.cl_explore.specs.Orders.{IsChosen, IsLedBy, OrderFaultHolds, TakesTurn, named};
@@ -12,7 +12,7 @@ use cl_machine::{KindRef, Step};
 use cl_moves::{MoveFault, Standing, turns_of};
 use cl_trace::Bare;
 use cl_turns::Turn;
-use rv_image::Image;
+use rv_image_types::Image;
 use std::alloc::{AllocError, Global};
 
 /// Why the turns of an order lead nowhere.

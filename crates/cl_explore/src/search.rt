@@ -13,6 +13,7 @@ use crate::course::Manner;
 use crate::kept::{KeptNode, keep_moved};
 use crate::leads::Lead;
 use crate::likeness::{is_alike, key_of, key_of_rank};
+use cl_contests::Patterns;
 use cl_moves::{MoveFault, Standing, is_done};
 use cl_replay::{KeptRanks, SharedRank};
 use cl_state::RankState;
@@ -27,6 +28,8 @@ pub(crate) struct Search {
     pub moved: Candidates,
     /// From which node to which each move led.
     pub leads: Vec<Lead>,
+    /// What ranks asked beside the patterns.
+    pub missing: Patterns,
 }
 
 /// Whether a rank that has had so many turns is at the same place of the order, or all its harts are stopped.
@@ -67,6 +70,7 @@ impl Search {
             candidates: Candidates::new(alloc)?,
             moved: Candidates::new(alloc)?,
             leads: Vec::new(alloc),
+            missing: Patterns::new(alloc),
         })
     }
 

@@ -1,5 +1,5 @@
 -- The cluster runs where each of its parts alone runs.
-use Rattle.cl_journal.specs.declared.entries.Entry.{Entry}
+use Rattle.cl_rank.specs.Below.{Entry}
 use Rattle.std.specs.Prelude.{◌<◌, List, [], ◌∷◌, ◌≡◌, map}
 use Rattle.std.specs.List.{filter_map, cons_option, AllByRecursion}
 use Rattle.std.specs.declared.option.Option.{Option}

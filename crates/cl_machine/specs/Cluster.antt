@@ -1,7 +1,7 @@
 -- The written cluster machine, as a table: one case for each kind of event.
 use Rattle.std.specs.Prelude.{ℕ, ◌+◌, ◌*◌, ◌<◌, ◌^◌, max, List, [], ◌∷◌, ◌≡◌, ◌⊎◌, length, map, replicate, slice_get}
 use Rattle.std.specs.Prelude.{slice_set, Some}
-use Rattle.rv_image.specs.declared.images.ImageParts.{ImageParts}
+use Rattle.rv_image_types.specs.declared.images.ImageParts.{ImageParts}
 use Rattle.mp_types.specs.declared.requests.Request.{Request}
 use Rattle.cl_machine.specs.Journal.{Journal, empty_journal, reply_in, with_entry}
 use Rattle.cl_state.specs.declared.asking.Answer.{Answer}

@@ -1,8 +1,8 @@
 -- A run of an image, from the loaded cluster on.
 use Rattle.std.specs.Prelude.{[], ◌∷◌, ◌≡◌, List, length, map}
-use Rattle.rv_image.specs.declared.images.ImageParts.{ImageParts}
-use Rattle.rv_image.specs.declared.images.ImageVersion.TheVariants.{Two}
-use Rattle.rv_image.specs.Image.{IsImage}
+use Rattle.rv_image_types.specs.declared.images.ImageParts.{ImageParts}
+use Rattle.rv_image_types.specs.declared.images.ImageVersion.TheVariants.{Two}
+use Rattle.rv_image_types.specs.Image.{IsImage}
 use Rattle.rv_hart.specs.declared.state.Mode.{Mode}
 use Rattle.rv_hart.specs.declared.state.Mode.TheVariants.{Ended}
 use Rattle.rv_hart.specs.State.{State}

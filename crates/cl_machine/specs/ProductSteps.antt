@@ -1,6 +1,6 @@
 -- One step of the product of parts, by the deed that makes it.
 use Rattle.std.specs.Prelude.{ℕ, ◌≡◌, Option, None, Some}
-use Rattle.cl_journal.specs.declared.entries.Entry.{Entry}
+use Rattle.cl_rank.specs.Below.{Entry}
 use Rattle.cl_machine.specs.Journal.{Journal, Enters}
 use Rattle.cl_rank.specs.Deeds.{Act, Deed, kind_of, RankMoves}
 use Rattle.cl_machine.specs.declared.steps.Step.{Step}

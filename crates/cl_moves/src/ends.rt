@@ -1,7 +1,7 @@
 //! States in which nobody goes on.
 
 ghost use Rattle.std.specs.Prelude.{◌≡◌, ◌↔◌, ◌<◌, ◌⊎◌, IfOk, List, Some, false, true, length, slice_get, vec_len};
-ghost use Rattle.rv_image.specs.declared.images.ImageParts.{ImageParts};
+ghost use Rattle.rv_image_types.specs.declared.images.ImageParts.{ImageParts};
 ghost use Rattle.cl_record.specs.Plans.{in_slot};
 ghost use Rattle.cl_state.specs.Rank.{Rank};
 ghost use Rattle.cl_state.specs.Room.{rank_of};

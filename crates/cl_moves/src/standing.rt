@@ -14,7 +14,7 @@ use cl_state::Ask;
 use cl_trace::Bare;
 use mp_alike::WholeHub;
 use mp_types::Request;
-use rv_image::Image;
+use rv_image_types::Image;
 use std::alloc::{AllocError, Global};
 
 /// Where a search stands: a cluster, how many turns each of its ranks has had, and the turns that led there from where the

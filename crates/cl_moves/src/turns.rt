@@ -1,7 +1,7 @@
 //! All turns that a hart may take from a state.
 
 ghost use Rattle.std.specs.Prelude.{◌≡◌, ◌<◌, ◌+◌, ◌-◌, ◌^◌, ◌∷◌, [], List, IfOk, false, max};
-ghost use Rattle.rv_image.specs.declared.images.Link.{Link};
+ghost use Rattle.rv_image_types.specs.declared.images.Link.{Link};
 ghost use Rattle.mp_hub.specs.Hub.{Call, reply_of};
 ghost use Rattle.mp_hub.specs.Outcomes.{StandsFor};
 ghost use Rattle.cl_machine.specs.Boxes.{box_number};

@@ -6,7 +6,7 @@ use Rattle.rv_hart.specs.declared.state.Mode.TheVariants.{Waiting}
 use Rattle.rv_hart.specs.declared.state.Wait.TheVariants.{Post}
 use Rattle.cl_state.specs.Asked.{part_of}
 use Rattle.cl_state_laws.specs.Vain.{IsPatient, IsStopped, mode_of}
-use Rattle.rv_image.specs.declared.images.ImageParts.{ImageParts}
+use Rattle.rv_image_types.specs.declared.images.ImageParts.{ImageParts}
 use Rattle.mp_alike_laws.specs.Renaming.{Renaming}
 use Rattle.cl_state.specs.Rank.{Rank}
 use Rattle.cl_trace.specs.declared.events.Kind.{Kind}

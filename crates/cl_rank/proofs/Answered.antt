@@ -2,7 +2,7 @@
 use Rattle.std.proofs.Common.{◌≡◌, ℕ, List, [], Bool, true, false, Option, Some, None, refl, sym, subst}
 use Rattle.std.proofs.Common.{◌⊎◌, inl, inr, ◌∙◌}
 use Rattle.std.specs.Prelude.{if◌then◌else◌, slice_get}
-use Rattle.rv_image.specs.declared.images.ImageVersion.{ImageVersion}
+use Rattle.rv_image_types.specs.declared.images.ImageVersion.{ImageVersion}
 use Rattle.mp_types.specs.declared.codes.Code.TheVariants as code
 use Rattle.mp_types.specs.declared.messages.Message.{Message}
 use Rattle.mp_types.specs.declared.messages.Envelope.{Envelope}

@@ -2,8 +2,8 @@
 use Rattle.std.proofs.Common.{◌≡◌, ℕ, zero, suc, ◌<◌, ◌≤◌, ◌+◌, ◌-◌, ◌*◌, List, [], ◌∷◌, ◌++◌, length, take, true, false}
 use Rattle.std.proofs.Common.{Option, Some, None, get_or, replicate, refl, sym, ap, subst, ◌∙◌, rules, arith}
 use Rattle.std.specs.Prelude.{map, slice_get, nat_le, nat_lt}
-use Rattle.rv_image.specs.declared.images.ImageVersion.{ImageVersion}
-use Rattle.rv_image.specs.declared.images.ImageVersion.TheVariants.{One, Two}
+use Rattle.rv_image_types.specs.declared.images.ImageVersion.{ImageVersion}
+use Rattle.rv_image_types.specs.declared.images.ImageVersion.TheVariants.{One, Two}
 use Rattle.part_box.specs.Keys.{Sender}
 use Rattle.part_channel.specs.Channels.{ChannelView, sender_box}
 use Rattle.part_channel.specs.Receiving.{RecvView}

@@ -1,7 +1,7 @@
 -- The clock of a hub stays below 2^62.
 use Rattle.std.proofs.Common.{◌<◌, ◌^◌, ℕ, List, [], ◌∷◌, ◌++◌, lit<, arith}
-use Rattle.rv_image.specs.declared.images.Link.{Link}
-use Rattle.mp_hub.specs.Hub.{Call}
+use Rattle.rv_image_types.specs.declared.images.Link.{Link}
+use Rattle.cl_journal.specs.Below.{Call}
 use Rattle.cl_journal.specs.declared.entries.Entry.{Entry}
 use Rattle.cl_journal.specs.declared.journal.HubFault.{HubFault}
 use Rattle.cl_journal.specs.declared.journal.HubFault.TheVariants as fault

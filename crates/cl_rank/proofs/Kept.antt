@@ -12,7 +12,7 @@ use Rattle.part_phase.specs.declared.sending.SendPhase.{SendPhase}
 use Rattle.part_phase.specs.declared.phases.Phase.TheVariants.{Apart, Sending, Receiving}
 use Rattle.part_phase.specs.Limits.{box_bytes}
 use Rattle.part_phase.specs.Phases.{changed_at, on_receiving, on_sending}
-use Rattle.rv_image.specs.declared.images.ImageVersion.{ImageVersion}
+use Rattle.rv_image_types.specs.declared.images.ImageVersion.{ImageVersion}
 use Rattle.cl_rank.specs.RankSides.{AreChannelsOf, AreSides, HasReceiver, HasSender, PhaseFits, phase_of_receiver}
 use Rattle.cl_rank.specs.RankSides.{phase_of_sender, side_of, sides_in}
 use Rattle.cl_rank.specs.Steps.{changed_side}

@@ -2,7 +2,7 @@
 use Rattle.std.proofs.Common.{◌≡◌, ℕ, zero, suc, ◌<◌, ◌≤◌, List, [], ◌∷◌, length, Bool, true, false, Option, Some, None}
 use Rattle.std.proofs.Common.{refl, sym, ap, subst, ◌∙◌, rules}
 use Rattle.std.specs.Prelude.{map, not, option_map, nat_le, nat_lt, if◌then◌else◌}
-use Rattle.rv_image.specs.declared.images.ImageVersion.{ImageVersion}
+use Rattle.rv_image_types.specs.declared.images.ImageVersion.{ImageVersion}
 use Rattle.mp_request.specs.Table.{Table}
 use Rattle.part_channel.specs.Channels.{ChannelView, receiver_box, sender_box}
 use Rattle.part_channel.specs.Receiving.{RecvView}

@@ -2,7 +2,7 @@
 use Rattle.std.proofs.Common.{◌≡◌, ℕ, zero, suc, ◌<◌, ◌≤◌, ◌*◌, ◌%◌, ◌==◌, List, [], ◌∷◌, ◌++◌, Bool, true, false}
 use Rattle.std.proofs.Common.{Option, Some, None, refl, sym, ap, subst, ◌∙◌, inl, inr, ⊎_elim, rules, arith}
 use Rattle.std.specs.Prelude.{◌&&◌, ◌^◌, map, not, nat_le, option_map, slice_get, vec_len, IfSome, if◌then◌else◌}
-use Rattle.rv_image.specs.declared.images.ImageVersion.{ImageVersion}
+use Rattle.rv_image_types.specs.declared.images.ImageVersion.{ImageVersion}
 use Rattle.mp_types.specs.declared.replies.Reply.{Reply}
 use Rattle.mp_types.specs.declared.requests.Request.{Request}
 use Rattle.mp_request.specs.declared.entries.OpenRequest.{OpenRequest}

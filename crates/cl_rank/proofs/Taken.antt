@@ -5,7 +5,7 @@ use Rattle.std.proofs.Common.{◌∙◌, rules, arith, ⊎_elim, length-append}
 use Rattle.std.proofs.lemmas.List.{append-nil}
 use Rattle.std.specs.List.{flat_map}
 use Rattle.std.specs.Prelude.{◌&&◌, map, max, not, slice_get, nat_le, is_some, ◌^◌, if◌then◌else◌}
-use Rattle.rv_image.specs.declared.images.ImageVersion.{ImageVersion}
+use Rattle.rv_image_types.specs.declared.images.ImageVersion.{ImageVersion}
 use Rattle.part_box.specs.Gate.{ready_stamp}
 use Rattle.part_box.specs.declared.view.Receiving.{Receiving as ReceivingKey}
 use Rattle.part_box.specs.Keys.{Receiver}

@@ -17,3 +17,4 @@ pub mod Plains
 pub mod Views
 pub mod QuickReceives
 pub mod QuickSends
+pub mod Below

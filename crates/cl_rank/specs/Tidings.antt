@@ -1,6 +1,6 @@
 -- What a hart is told of the box that its turn asked, and the kind and the stamp of the turn's event.
 use Rattle.std.specs.Prelude.{ℕ, ◌≡◌, ⊤, take}
-use Rattle.rv_image.specs.declared.images.ImageVersion.{ImageVersion}
+use Rattle.rv_image_types.specs.declared.images.ImageVersion.{ImageVersion}
 use Rattle.part_channel.specs.declared.progress.Progress.{Progress}
 use Rattle.part_channel.specs.declared.progress.Progress.TheVariants as progress
 use Rattle.part_channel.specs.declared.progress.Take.{Take}

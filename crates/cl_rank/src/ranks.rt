@@ -20,7 +20,7 @@ use cl_state::RankState;
 use cl_trace::Trace;
 use mp_types::Posts;
 use part_channel::{Channel, RecvSide, SendSide};
-use rv_image::Image;
+use rv_image_types::Image;
 use std::alloc::{AllocError, Global};
 
 /// A rank with the events of its turns so far, and the sides that it has of the image's links.

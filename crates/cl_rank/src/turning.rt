@@ -42,7 +42,7 @@ use mp_types::{Posts, Reply, Request, Stamp};
 use part_channel::{Channel, Progress, Take};
 use part_phase::{Contents, box_words};
 use rv_hart::{Did, Hart, Mode, Wait, step};
-use rv_image::ImageVersion;
+use rv_image_types::ImageVersion;
 use rv_memory::RankMemory;
 
 /// Does the instruction of a running hart, where it is no ECALL. Else nothing is done: the hart isn't running, its word

@@ -1,7 +1,7 @@
 -- Boxes as they are left in the end.
 use Rattle.std.specs.Prelude.{ℕ, ◌≡◌, ◌<◌, List, length, replicate, slice_get, take, true, false, Some}
-use Rattle.rv_image.specs.declared.images.ImageParts.{ImageParts}
-use Rattle.rv_image.specs.declared.images.ImageVersion.{ImageVersion}
+use Rattle.rv_image_types.specs.declared.images.ImageParts.{ImageParts}
+use Rattle.rv_image_types.specs.declared.images.ImageVersion.{ImageVersion}
 use Rattle.part_box.specs.declared.settled.Settled.{Settled}
 use Rattle.part_channel.specs.Words.{bytes_of_words}
 use Rattle.part_phase.specs.Limits.{box_bytes}

@@ -1,6 +1,6 @@
 -- Seats as they are loaded, one behind another.
 use Rattle.std.specs.Prelude.{ℕ, ◌≡◌, List, [], ◌∷◌, ◌++◌, length, map, slice_get, Some}
-use Rattle.rv_image.specs.declared.images.ImageParts.{ImageParts}
+use Rattle.rv_image_types.specs.declared.images.ImageParts.{ImageParts}
 use Rattle.part_channel.specs.Channels.{ChannelView}
 use Rattle.cl_state.specs.Rank.{below, loaded}
 use Rattle.cl_state.specs.Room.{rank_of}

@@ -1,6 +1,6 @@
 -- Plans: which harts take a rank's turns, and how many it has; and the order in which ranks take theirs.
 use Rattle.std.specs.Prelude.{ℕ, ◌≡◌, ◌<◌, ◌≤◌, ◌^◌, ◌%◌, List, length, slice_index, All, Contains}
-use Rattle.rv_image.specs.declared.images.ImageParts.{ImageParts}
+use Rattle.rv_image_types.specs.declared.images.ImageParts.{ImageParts}
 use Rattle.cl_record.specs.declared.plans.Plan.{Plan}
 
 -- an order of turns: some numbers, each of one that is there

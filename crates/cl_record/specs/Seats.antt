@@ -1,7 +1,7 @@
 -- A seat: what a driver keeps of one rank, and what a turn by a desk makes of it.
 use Rattle.std.specs.Prelude.{ℕ, ◌≡◌, ◌<◌, ◌+◌, ◌%◌, ◌⊎◌, List, [], ◌∷◌, ◌++◌, length, slice_get, slice_index}
 use Rattle.std.specs.Prelude.{Option, None, Some}
-use Rattle.rv_image.specs.declared.images.ImageParts.{ImageParts}
+use Rattle.rv_image_types.specs.declared.images.ImageParts.{ImageParts}
 use Rattle.part_channel.specs.Channels.{ChannelView}
 use Rattle.cl_trace.specs.declared.events.Event.{Event}
 use Rattle.mp_types.specs.declared.requests.Request.{Request}

@@ -1,6 +1,6 @@
 -- What the boxes of all links are left with, by the sides of their ranks.
 use Rattle.std.specs.Prelude.{ℕ, ◌≡◌, ◌≢◌, ◌<◌, ◌≤◌, List, length, map, slice_get, Some}
-use Rattle.rv_image.specs.declared.images.Link.{Link}
+use Rattle.rv_image_types.specs.declared.images.Link.{Link}
 use Rattle.part_box.specs.declared.settled.Settled.{Settled}
 use Rattle.part_channel.specs.Channels.{ChannelView, receiver_box, sender_box}
 use Rattle.part_channel.specs.Receiving.{RecvView}

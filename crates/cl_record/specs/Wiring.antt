@@ -1,8 +1,8 @@
 -- The channels of all links, and the sides that each rank has of them before its first turn.
 use Rattle.std.specs.Prelude.{ℕ, ◌≡◌, ◌==◌, ⊤, List, length, slice_get, Option, Some, None, if◌then◌else◌}
-use Rattle.rv_image.specs.declared.images.ImageParts.{ImageParts}
-use Rattle.rv_image.specs.declared.images.ImageVersion.{ImageVersion}
-use Rattle.rv_image.specs.declared.images.Link.{Link}
+use Rattle.rv_image_types.specs.declared.images.ImageParts.{ImageParts}
+use Rattle.rv_image_types.specs.declared.images.ImageVersion.{ImageVersion}
+use Rattle.rv_image_types.specs.declared.images.Link.{Link}
 use Rattle.part_channel.specs.Channels.{ChannelView}
 use Rattle.part_channel.specs.Receiving.{RecvView, new_recv_side}
 use Rattle.part_channel.specs.Sending.{SendView, new_send_side}

@@ -1,7 +1,7 @@
 //! All seats before the first turn.
 
 ghost use Rattle.std.specs.Prelude.{◌≡◌, ◌<◌, ◌≤◌, List, [], All, IfOk, OnOk, length, map, vec_len};
-ghost use Rattle.rv_image.specs.Image.{IsLink};
+ghost use Rattle.rv_image_types.specs.Image.{IsLink};
 ghost use Rattle.part_channel.specs.Channels.{ChannelView};
 ghost use Rattle.cl_state.specs.Rank.{below, loaded};
 ghost use Rattle.cl_state.specs.Room.{rank_of};
@@ -14,7 +14,7 @@ use crate::plans::Plan;
 use crate::seats::Seat;
 use crate::wiring::Ends;
 use cl_rank::RankState;
-use rv_image::Image;
+use rv_image_types::Image;
 use std::alloc::{AllocError, Global};
 
 /// The next rank as it is loaded, at its plan, with its ends of the links, behind those before it.

@@ -3,7 +3,7 @@
 ghost use Rattle.std.specs.Prelude.{◌≡◌, ◌<◌, ◌↔◌, IsTrue, All, Contains};
 ghost use Rattle.cl_record.specs.Plans.{ArePlans, HasPlans, IsOrder, IsPlan, MissesNone};
 
-use rv_image::Image;
+use rv_image_types::Image;
 
 /// The most turns that a plan gives a rank.
 pub const BUDGET_MAX: u64 = 16_777_216;

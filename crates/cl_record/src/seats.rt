@@ -1,7 +1,7 @@
 //! A rank at its plan, from its first turn to its end.
 
 ghost use Rattle.std.specs.Prelude.{◌≡◌, ◌<◌, ◌≤◌, ◌+◌, ◌%◌, List, [], All, None, Some, IfOk, IsTrue, IsFalse, length, vec_len, is_some};
-ghost use Rattle.rv_image.specs.Image.{IsLink};
+ghost use Rattle.rv_image_types.specs.Image.{IsLink};
 ghost use Rattle.part_channel.specs.Channels.{ChannelView};
 ghost use Rattle.cl_state.specs.Rank.{loaded};
 ghost use Rattle.cl_rank.specs.RankSides.{AreChannelsOf, AreNewSides};
@@ -15,7 +15,7 @@ use crate::plans::Plan;
 use crate::wiring::Ends;
 use cl_rank::{Desk, Rank, RankState, Stop};
 use part_channel::Channel;
-use rv_image::Image;
+use rv_image_types::Image;
 use std::alloc::{AllocError, Global};
 
 /// A rank with its plan, its place there, and its stop: what a driver keeps of it.

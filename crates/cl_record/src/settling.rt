@@ -8,7 +8,7 @@ ghost use Rattle.cl_record.specs.Settling.{IsLinkSettled, Kept, MaySettle};
 use crate::wiring::Ends;
 use part_box::Settled;
 use part_channel::{Channel, RecvSide, SendSide};
-use rv_image::Link;
+use rv_image_types::Link;
 
 /// The place of the side of a link.
 fn place_in<S>(sides: &[(u8, S)], link: u8) -> usize

@@ -1,12 +1,12 @@
 //! The channels of all links, and each rank's sides of them.
 
 ghost use Rattle.std.specs.Prelude.{◌≡◌, ◌<◌, ◌∷◌, ◌++◌, List, [], IfOk, length};
-ghost use Rattle.rv_image.specs.Image.{IsLink};
+ghost use Rattle.rv_image_types.specs.Image.{IsLink};
 ghost use Rattle.cl_record.specs.Wiring.{IsWired};
 
 use part_channel::{Channel, RecvSide, SendSide};
 use part_phase::box_words;
-use rv_image::{Image, ImageVersion, Link};
+use rv_image_types::{Image, ImageVersion, Link};
 use std::alloc::{AllocError, Global};
 
 /// One rank's sides, each with the number of its link.

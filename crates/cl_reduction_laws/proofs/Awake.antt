@@ -16,7 +16,7 @@ use Rattle.cl_state_laws.specs.Awake.{awake, awake_hart, woken}
 use Rattle.cl_state_laws.specs.VainLaws.{at_clock}
 use Rattle.cl_machine.specs.Cluster.{Cluster}
 use Rattle.cl_order_laws.specs.Alike.{AlikeRanks}
-use Rattle.cl_source_laws.specs.Alike.{AreAlike}
+use Rattle.cl_first_laws.specs.Below.{AreAlike}
 use Rattle.cl_reduction_laws.specs.Clusters.{awake_cluster}
 
 -- ---- alike ranks are alike awake
@@ -36,7 +36,7 @@ module _ (names : Renaming) where
   harts_same [] = refl
   harts_same (h ∷ hs) = (λ i. hart_same h i ∷ harts_same hs i)
 
-  rank_same : (x : Rank) → awake (rank_by names x) ≡ rank_by names (awake x)
+  pub rank_same : (x : Rank) → awake (rank_by names x) ≡ rank_by names (awake x)
   rank_same x = (λ i. record (rank_by names x) { harts = harts_same x.harts i })
 
   pub ranks_awake : (x y : Rank) → AlikeRanks names x y → AlikeRanks names (awake x) (awake y)

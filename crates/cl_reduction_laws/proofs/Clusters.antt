@@ -20,8 +20,9 @@ use Rattle.cl_state.specs.Asked.{asked, doing, part_of}
 use Rattle.cl_state.specs.Rank.{Rank}
 use Rattle.cl_state.specs.Told.{told}
 use Rattle.cl_state_laws.specs.Awake.{awake}
-use Rattle.cl_state_laws.specs.Vain.{waits_on}
+use Rattle.cl_state_laws.specs.Vain.{IsStopped, mode_of, waits_on}
 use Rattle.cl_state_laws.specs.VainLaws.{at_clock}
+use Rattle.cl_state_laws.proofs.Vain.{vain_law as rank_vain}
 use Rattle.cl_state_laws.proofs.Wakes.{wake_law}
 use Rattle.cl_machine.specs.Cluster.{Cluster}
 use Rattle.cl_machine.specs.Journal.{reply_in, with_entry}
@@ -36,16 +37,16 @@ use Rattle.cl_order_laws.proofs.SureAlone.{IsLive, has_hart, sure_alone_law}
 use Rattle.cl_order_laws.proofs.SureHub.{reply_is, sure_hub_law}
 use Rattle.cl_order_laws.proofs.Vain.{hub_stays}
 use Rattle.cl_order_laws.proofs.Walks.{hub_entry}
-use Rattle.cl_source_laws.specs.Alike.{AreAlike}
-use Rattle.cl_source_laws.proofs.Likeness.{likeness_law}
+use Rattle.cl_first_laws.specs.Below.{AreAlike}
+use Rattle.cl_first_laws.proofs.Below.{likeness_law}
 use Rattle.cl_first_laws.specs.Laws.{Turn}
 use Rattle.cl_first_laws.proofs.Exchanges.{Called, call_of}
 use Rattle.cl_schedule_laws.specs.Machines.{IsExchanged, IsMachine, Ranks}
 use Rattle.cl_reduction_laws.specs.Patterns.{IsAllowed, MayPass, Pattern, pattern_of_ask, pattern_of_request}
-use Rattle.cl_reduction_laws.specs.Clusters.{AreSure, GoesFirst, IsReadyPoll, IsWithin, Search, State, alone as busy, awake_cluster, cluster_machine, collects, posts, posts_of, weight_of}
+use Rattle.cl_reduction_laws.specs.Clusters.{AreSure, CanGo, GoesFirst, IsReadyPoll, IsStill, IsWithin, Search, State, alone as busy, awake_cluster, cluster_machine, collects, lone, posts, posts_of, weight_of}
 use Rattle.cl_reduction_laws.specs.Laws.{ClusterMachineLaw}
 use Rattle.cl_reduction_laws.proofs.Awake.{map_set, mapped}
-use Rattle.cl_reduction_laws.proofs.Good.{Gone, IsMade, alone, at_start, called, goes_of, gone, good_after, grows_by, made_within, plans_of}
+use Rattle.cl_reduction_laws.proofs.Good.{Gone, IsMade, IsOwn, alone, at_start, called, goes_of, gone, good_after, grows_by, made_within, plans_of}
 use Rattle.cl_reduction_laws.proofs.Machine.{IsSame, each_itself, Taken, same_alike, taken, turn_by}
 use Rattle.cl_reduction_laws.proofs.Follows.{follows, weight_too, within_too}
 use Rattle.cl_reduction_laws.proofs.First.{IsLook, IsTold, is_there, is_told, not_yet, of_ready, of_refused, refused}
@@ -72,7 +73,7 @@ sync_of wild r _ s now comm source tag is may = absurd is
 
 -- ---- a turn in vain
 
-set_kept : {A : Type 0} (xs : List A) (i : ℕ) (x : A) → slice_get xs i ≡ Some x → slice_set xs i x ≡ xs
+pub set_kept : {A : Type 0} (xs : List A) (i : ℕ) (x : A) → slice_get xs i ≡ Some x → slice_set xs i x ≡ xs
 set_kept [] i x h = refl
 set_kept (y ∷ xs) zero x h = ap (λ z. z ∷ xs) (sym (same_Some y x h))
 set_kept (y ∷ xs) (suc i) x h = ap (λ l. y ∷ l) (set_kept xs i x h)
@@ -81,8 +82,24 @@ module _ (search : Search) where
   abbrev hart : ℕ → ℕ
   hart = search.harts
 
+  -- a rank that is stopped is left as it was, but for its clock
+  pub idle : (s : ℕ) (a b : Cluster) (x : Rank) (stamp : ℕ) → slice_get a.ranks s ≡ Some x → IsStopped (mode_of x (hart s))
+      → b.ranks ≡ slice_set a.ranks s (told x (hart s) answer.Alone stamp) → b.journal ≡ a.journal → b.boxes ≡ a.boxes
+      → IsSame a b
+  idle s a b x stamp here stopped ranks journal boxes = record {
+    ranks = subst (λ xs. AreEach (AlikeRanks no_renaming) xs (map awake b.ranks))
+        (set_kept (map awake a.ranks) s (awake x) (mapped awake a.ranks s x here))
+        (subst (λ ys. AreEach (AlikeRanks no_renaming) (slice_set (map awake a.ranks) s (awake x)) ys)
+        (sym (ap (map awake) (ranks ∙ ap (slice_set a.ranks s) ((rank_vain.stopped) x (hart s) stamp answer.Alone stopped).1)
+        ∙ map_set awake a.ranks s (at_clock x stamp)))
+        (each_set (AlikeRanks no_renaming) (map awake a.ranks) (map awake a.ranks) s (awake x) (at_clock (awake x) stamp)
+        (each_itself (map awake a.ranks)) (rank_itself (awake x) stamp)));
+    hubs = ap hub_of journal;
+    boxes = boxes;
+  }
+
   -- a rank that waits in vain is left as it was, but for who is awake
-  vain : (s : ℕ) (a b : Cluster) (x : Rank) (p : Request) → slice_get a.ranks s ≡ Some x
+  pub vain : (s : ℕ) (a b : Cluster) (x : Rank) (p : Request) → slice_get a.ranks s ≡ Some x
       → waits_on (doing x.site (part_of x (hart s))) ≡ true → asked x (hart s) ≡ Ask.Hub p
       → Called s (hart s) a b x p → (outcome (hub_of a.journal) s p).0 ≡ reply.NotYet
       → IsSame a b
@@ -257,7 +274,22 @@ module _ (search : Search) where
           )
       by_posting (called p also k) = call_by p also k
 
+    -- a turn of a rank that can't go on leaves what is alike
+    still_turn : IsStill a.cluster s t.rank (hart s) → Gone s (hart s) a.cluster b.cluster t.rank → IsSame a.cluster b.cluster
+    still_turn (inl stopped) (alone stamp own ranks journal boxes) =
+        idle s a.cluster b.cluster t.rank stamp t.there stopped ranks journal boxes
+    still_turn (inl stopped) (called p also k) =
+        (let none = sym ((rank_vain.stopped) t.rank (hart s) 0 answer.Alone stopped).0 ∙ also in absurd (cc))
+    still_turn (inr waits) (alone stamp own ranks journal boxes) = absurd (subst IsOwn waits.1 own)
+    still_turn (inr waits) (called p also k) =
+        vain s a.cluster b.cluster t.rank waits.0 t.there waits.2 waits.1
+        (call_of s (hart s) a.cluster b.cluster t.rank waits.0 t.there waits.1 one)
+        (sym (reply_is a.cluster.journal s waits.0) ∙ waits.3)
+
     by_first : GoesFirst search a.cluster r sure.rank → Result
+    by_first (lone can still) =
+        inl (same_alike search.wild a.cluster b.cluster (a.good).boxes
+        (still_turn (still s t.rank apart t.there) (gone s (hart s) a.cluster b.cluster t.rank t.there made one)))
     by_first (busy is) =
         let s_law = sure_alone_law (plans_of hart) 65535 (at_start a.cluster) r sure.rank
         (alike_itself a.cluster (a.good).boxes) sure.there is in
@@ -351,6 +383,13 @@ module _ (search : Search) where
       go Ask.Local is = tt
       go _ is = absurd is
   first_live c r rank (collects q asks ready) = live_hub q _ asks
+  first_live c r rank (lone can still) = go (asked rank (hart r)) can
+    where
+      go : (a : Ask) → CanGo a → IsLive a
+      go Ask.Plain is = tt
+      go Ask.Local is = tt
+      go (Ask.Hub q) is = tt
+      go _ is = absurd is
   first_live c r rank (posts q asks post pass) = live_hub q _ asks
 
   sure_goes : (rs : Ranks) (r : ℕ) (a : State search) → AreSure search a.cluster rs → rs r ≡ true

@@ -20,8 +20,8 @@ use Rattle.cl_order_laws.specs.Turns.{IsTurn}
 use Rattle.cl_order_laws.proofs.Commuting.{first_alone, moved}
 use Rattle.cl_order_laws.proofs.Likeness.{alike_itself}
 use Rattle.cl_order_laws.proofs.Turns.{turns_law}
-use Rattle.cl_source_laws.specs.Alike.{AreAlike, AskWithin}
-use Rattle.cl_source_laws.proofs.Likeness.{likeness_law}
+use Rattle.cl_first_laws.specs.Below.{AreAlike, AskWithin}
+use Rattle.cl_first_laws.proofs.Below.{likeness_law}
 use Rattle.cl_first_laws.specs.Laws.{IsCalm, IsExchanged as AreExchanged, Polls, Reordered, Turn, at_once as together, r_polls as mine_polls, s_polls as theirs_polls}
 use Rattle.cl_first_laws.proofs.Exchanges.{both, exchange_law, next, plain, turn_of}
 use Rattle.cl_schedule_laws.specs.Machines.{IsExchanged, IsReordered, at_once, r_polls, s_polls}

@@ -26,9 +26,9 @@ use Rattle.cl_machine.specs.Cluster.{Cluster}
 use Rattle.cl_order_laws.specs.Alike.{AlikeRanks, at_stamp}
 use Rattle.cl_order_laws.proofs.Likeness.{each_from}
 use Rattle.cl_order_laws.proofs.Ranks.{asked_alike, harts_alike}
-use Rattle.cl_source_laws.specs.Alike.{AreAlike, AskWithin}
-use Rattle.cl_source_laws.proofs.Likeness.{likeness_law}
-use Rattle.cl_source_laws.proofs.GoAlike.{go_alike_law}
+use Rattle.cl_first_laws.specs.Below.{AreAlike, AskWithin}
+use Rattle.cl_first_laws.proofs.Below.{likeness_law}
+use Rattle.cl_first_laws.proofs.Below.{go_alike_law}
 use Rattle.cl_first_laws.specs.Laws.{Turn}
 use Rattle.cl_reduction_laws.specs.Patterns.{IsAllowed, pattern_of, pattern_of_ask, pattern_of_request}
 use Rattle.cl_reduction_laws.specs.Clusters.{IsWithin, Search, State, awake_cluster, weight_in, weight_of}
@@ -107,7 +107,7 @@ module _ (names : Renaming) (hart : ℕ) (x y : Rank) (sx : StandsAtCall x hart)
       sym ((wake_law.asks) y hart sy) ∙ asked_alike names (awake x) (awake y) alike hart
       ∙ ap (ask_by names) ((wake_law.asks) x hart sx)
 
-  waits_too : waits_on (doing y.site (part_of y hart)) ≡ waits_on (doing x.site (part_of x hart))
+  pub waits_too : waits_on (doing y.site (part_of y hart)) ≡ waits_on (doing x.site (part_of x hart))
   waits_too =
       ap waits_on (sym (does_awake y hart sy))
       ∙ waits_alike names hart (awake x) (awake y) alike

@@ -35,8 +35,8 @@ use Rattle.cl_state.specs.Told.{told}
 use Rattle.cl_state_laws.specs.Awake.{HasNoBytes, StandsAtCall}
 use Rattle.cl_state_laws.specs.Vain.{waits_on}
 use Rattle.cl_state_laws.proofs.Wakes.{wake_law}
-use Rattle.cl_post_laws.specs.Laws.{NamesBelow, TellsBelow}
-use Rattle.cl_post_laws.proofs.Renamed.{below}
+use Rattle.cl_first_laws.specs.Below.{NamesBelow, TellsBelow}
+use Rattle.cl_first_laws.proofs.Below.{below}
 use Rattle.cl_trace.specs.declared.events.Kind.{Kind}
 use Rattle.cl_machine.specs.Boxes.{Box}
 use Rattle.cl_machine.specs.Cluster.{Cluster}
@@ -47,7 +47,7 @@ use Rattle.cl_order_laws.specs.Turns.{IsOnly, IsTurn}
 use Rattle.cl_order_laws.proofs.Each.{was_there}
 use Rattle.cl_order_laws.proofs.Turns.{turns_law}
 use Rattle.cl_order_laws.proofs.Walks.{turn_posts, turn_posts_most}
-use Rattle.cl_source_laws.specs.Alike.{AskWithin}
+use Rattle.cl_first_laws.specs.Below.{AskWithin}
 use Rattle.cl_first_laws.specs.Laws.{Turn}
 use Rattle.cl_first_laws.proofs.Exchanges.{Called, call_of}
 use Rattle.cl_reduction_laws.specs.Clusters.{IsGood, IsWithin, Search, posts_of}

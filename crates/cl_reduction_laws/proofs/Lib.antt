@@ -5,3 +5,4 @@ pub mod Follows
 pub mod First
 pub mod Exchanged
 pub mod Clusters
+pub mod Below

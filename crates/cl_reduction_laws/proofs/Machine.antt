@@ -23,7 +23,7 @@ use Rattle.cl_order_laws.specs.Alike.{AlikeBoxes, AlikeRanks, AreEach, hub_of}
 use Rattle.cl_order_laws.proofs.Each.{each_set}
 use Rattle.cl_order_laws.proofs.Likeness.{AreSound, rank_itself}
 use Rattle.cl_order_laws.proofs.Ranks.{told_stamped}
-use Rattle.cl_source_laws.specs.Alike.{AreAlike}
+use Rattle.cl_first_laws.specs.Below.{AreAlike}
 use Rattle.cl_first_laws.specs.Laws.{Turn}
 use Rattle.cl_first_laws.proofs.Exchanges.{next, turn_of}
 use Rattle.cl_reduction_laws.specs.Clusters.{awake_cluster}

@@ -1,24 +1,25 @@
 -- Clusters whose ranks have one hart each, as a machine of ranks that take turns.
-use Rattle.std.specs.Prelude.{ℕ, ◌+◌, ◌<◌, ◌≡◌, ◌≢◌, true, length, map, Option, Some, None}
+use Rattle.std.specs.Prelude.{ℕ, ◌+◌, ◌<◌, ◌≡◌, ◌≢◌, ◌⊎◌, true, length, map, Option, Some, None}
 use Rattle.std.specs.List.{slice_get}
 use Rattle.rv_hart.specs.declared.state.Mode.{Mode}
 use Rattle.rv_hart.specs.declared.state.Mode.TheVariants.{Waiting}
 use Rattle.rv_hart.specs.declared.state.Wait.TheVariants.{Post}
+use Rattle.mp_types.specs.declared.replies.Reply.TheVariants.{NotYet}
 use Rattle.mp_types.specs.declared.requests.Request.{Request}
 use Rattle.mp_source_laws.specs.Alike.{Wild}
 use Rattle.mp_clash_laws.specs.Exchanges.{IsPosting, WaitsWithin}
 use Rattle.cl_state.specs.declared.asking.Ask.{Ask}
-use Rattle.cl_state.specs.Asked.{asked}
+use Rattle.cl_state.specs.Asked.{asked, doing, part_of}
 use Rattle.cl_state.specs.Rank.{Rank}
 use Rattle.cl_state_laws.specs.Awake.{StandsAtCall, awake}
-use Rattle.cl_state_laws.specs.Vain.{mode_of}
-use Rattle.cl_post_laws.specs.Laws.{NamesBelow}
+use Rattle.cl_state_laws.specs.Vain.{IsStopped, mode_of, waits_on}
+use Rattle.cl_first_laws.specs.Below.{NamesBelow}
 use Rattle.cl_machine.specs.Boxes.{Box}
 use Rattle.cl_machine.specs.Cluster.{Cluster}
 use Rattle.cl_machine.specs.Journal.{reply_in}
 use Rattle.cl_order_laws.specs.Alike.{AlikeBoxes, hub_of}
 use Rattle.cl_order_laws.specs.SureAsks.{IsBusy, IsReady}
-use Rattle.cl_source_laws.specs.Alike.{AreAlike, AskWithin}
+use Rattle.cl_first_laws.specs.Below.{AreAlike, AskWithin}
 use Rattle.cl_first_laws.specs.Laws.{Turn}
 use Rattle.cl_schedule_laws.specs.Machines.{Machine, Ranks}
 use Rattle.cl_reduction_laws.specs.Patterns.{IsAllowed, MayPass, Pattern, Patterns, pattern_of}
@@ -73,13 +74,31 @@ weight_of (Some rank) hart = weight_in (mode_of rank hart)
 
 -- ---- ranks that may go first
 
--- needs only its rank; or asks the hub for what is there and stays; or posts what may pass whatever other ranks may ask
+-- the rank's hart is stopped, or makes a call anew, in vain
+abbrev pub IsStill : Cluster → ℕ → Rank → ℕ → Type 0
+IsStill c s rank hart =
+    IsStopped (mode_of rank hart)
+    ⊎ ((q : Request) × (asked rank hart ≡ Ask.Hub q) × (waits_on (doing rank.site (part_of rank hart)) ≡ true)
+    × (reply_in c.journal s q ≡ NotYet))
+
+-- a turn of its own, or a call
+abbrev pub CanGo : Ask → Type 0
+CanGo Ask.Plain = Unit {0}
+CanGo Ask.Local = Unit {0}
+CanGo (Ask.Hub q) = Unit {0}
+CanGo _ = ⊥
+
+-- needs only its rank; or asks the hub for what is there and stays; or posts what may pass whatever other ranks may ask;
+-- or can go on where no other rank can
 pub data GoesFirst (search : Search) (c : Cluster) (r : ℕ) (rank : Rank) : Type 0 where
   alone : IsBusy (asked rank (search.harts r)) → GoesFirst search c r rank
   collects : (q : Request) → asked rank (search.harts r) ≡ Ask.Hub q → IsReady q (reply_in c.journal r q)
       → GoesFirst search c r rank
   posts : (q : Request) → asked rank (search.harts r) ≡ Ask.Hub q → IsPosting q
       → ((s : ℕ) (p : Pattern) → s ≢ r → IsAllowed search.patterns s p → MayPass search.wild r q s p)
+      → GoesFirst search c r rank
+  lone : CanGo (asked rank (search.harts r))
+      → ((s : ℕ) (other : Rank) → s ≢ r → slice_get c.ranks s ≡ Some other → IsStill c s other (search.harts s))
       → GoesFirst search c r rank
 
 -- one rank goes first

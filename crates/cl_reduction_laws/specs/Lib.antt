@@ -1,3 +1,5 @@
 pub mod Patterns
 pub mod Clusters
+pub mod Settled
 pub mod Laws
+pub mod Below

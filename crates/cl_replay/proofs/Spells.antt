@@ -3,8 +3,8 @@ use Rattle.std.specs.Prelude.{ℕ, ◌≡◌, ◌<◌, ◌≤◌, ◌+◌, ◌-�
 use Rattle.std.specs.List.{flat_map}
 use Rattle.std.proofs.Common.{zero, suc, refl, sym, ap, ◌∙◌, subst, add-one, arith, get_or}
 use Rattle.std.proofs.lemmas.List.{length-take-le, take_all}
-use Rattle.rv_image.specs.declared.images.ImageVersion.{ImageVersion}
-use Rattle.rv_image.specs.declared.images.ImageVersion.TheVariants.{One, Two}
+use Rattle.rv_image_types.specs.declared.images.ImageVersion.{ImageVersion}
+use Rattle.rv_image_types.specs.declared.images.ImageVersion.TheVariants.{One, Two}
 use Rattle.part_channel.specs.Words.{bytes_of_words, bytes_of_word}
 use Rattle.part_channel.specs.BoxWords.{words_of}
 use Rattle.part_channel.proofs.Words.{more_bytes}

@@ -1,6 +1,6 @@
 -- States that are alike.
 use Rattle.std.specs.Prelude.{◌≡◌, map}
-use Rattle.rv_image.specs.declared.images.ImageParts.{ImageParts}
+use Rattle.rv_image_types.specs.declared.images.ImageParts.{ImageParts}
 use Rattle.cl_state.specs.Room.{rank_of}
 use Rattle.cl_machine.specs.Cluster.{Cluster}
 use Rattle.cl_replay.specs.declared.states.ClusterState.{ClusterState}

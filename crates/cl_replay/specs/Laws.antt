@@ -1,6 +1,6 @@
 -- Laws of what is replayed and checked.
 use Rattle.std.specs.Prelude.{◌≡◌, List, ℕ, ◌<◌}
-use Rattle.rv_image.specs.declared.images.ImageParts.{ImageParts}
+use Rattle.rv_image_types.specs.declared.images.ImageParts.{ImageParts}
 use Rattle.cl_machine.specs.Merge.{IsMerge}
 use Rattle.cl_machine.specs.declared.steps.Step.{Step}
 use Rattle.cl_record.specs.Records.{IsMergedRun, steps_in}

@@ -11,3 +11,4 @@ pub mod Laws
 pub mod InnerReplaying
 pub mod InnerStates
 pub mod Walking
+pub mod Below

@@ -1,7 +1,7 @@
 -- What a replay of a record's events shows.
 use Rattle.std.specs.Prelude.{ℕ, ◌≡◌, List, length, map, Some}
-use Rattle.rv_image.specs.declared.images.ImageParts.{ImageParts}
-use Rattle.rv_image.specs.declared.images.ImageVersion.{ImageVersion}
+use Rattle.rv_image_types.specs.declared.images.ImageParts.{ImageParts}
+use Rattle.rv_image_types.specs.declared.images.ImageVersion.{ImageVersion}
 use Rattle.mp_hub.specs.Outcomes.{StandsFor as HubStandsFor}
 use Rattle.part_box.specs.declared.settled.Settled.{Settled}
 use Rattle.cl_journal.specs.Journal.{stamp_after, calls_of}

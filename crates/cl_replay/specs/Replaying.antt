@@ -1,6 +1,6 @@
 -- Where the replay of the first steps of a list leads, or breaks off.
 use Rattle.std.specs.Prelude.{ℕ, List, take}
-use Rattle.rv_image.specs.declared.images.ImageParts.{ImageParts}
+use Rattle.rv_image_types.specs.declared.images.ImageParts.{ImageParts}
 use Rattle.cl_machine.specs.Cluster.{Cluster, IsRun, loaded_cluster}
 use Rattle.cl_machine.specs.declared.steps.Step.{Step}
 use Rattle.cl_replay.specs.declared.states.ClusterState.{ClusterState}

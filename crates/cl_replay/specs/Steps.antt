@@ -1,6 +1,6 @@
 -- Where a step leads, and what it is refused for.
 use Rattle.std.specs.Prelude.{◌≡◌, ◌<◌, ◌⊎◌, Some, true, slice_get}
-use Rattle.rv_image.specs.declared.images.ImageParts.{ImageParts}
+use Rattle.rv_image_types.specs.declared.images.ImageParts.{ImageParts}
 use Rattle.mp_types.specs.Carried.{carried_by_request}
 use Rattle.mp_types.specs.declared.requests.Request.{Request}
 use Rattle.mp_hub.specs.Made.{makes}

@@ -1,7 +1,7 @@
 -- What a step of each kind asks of a rank, of the hub and of a box, and what it leaves of them.
 use Rattle.std.specs.Prelude.{ℕ, ◌≡◌, ◌⊎◌, ◌<◌, ◌≤◌, ◌+◌, ◌++◌, ◌∷◌, [], max, length, List}
 use Rattle.std.specs.Prelude.{Option, Some, None, true, false}
-use Rattle.rv_image.specs.declared.images.Link.{Link}
+use Rattle.rv_image_types.specs.declared.images.Link.{Link}
 use Rattle.mp_types.specs.Carried.{carried_by_request}
 use Rattle.mp_types.specs.declared.requests.Request.{Request}
 use Rattle.mp_types.specs.declared.replies.Reply.{Reply}

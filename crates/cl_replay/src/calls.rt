@@ -1,7 +1,7 @@
 //! A call of the hub, as a step.
 
 ghost use Rattle.std.specs.Prelude.{◌≡◌, ◌<◌, ◌^◌, Err, List, IfErr, OnOk, vec_len};
-ghost use Rattle.rv_image.specs.declared.images.Link.{Link};
+ghost use Rattle.rv_image_types.specs.declared.images.Link.{Link};
 ghost use Rattle.mp_hub.specs.Hub.{Call};
 ghost use Rattle.cl_state.specs.declared.asking.Ask.TheVariants as ask;
 ghost use Rattle.cl_state.specs.Asked.{asked};

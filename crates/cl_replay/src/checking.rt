@@ -2,7 +2,7 @@
 
 ghost use Rattle.std.specs.Prelude.{◌≡◌, ◌↔◌, ◌<◌, IfOk, IsTrue, None, Some, length, slice_get, take};
 ghost use Rattle.std.specs.List.{last_or};
-ghost use Rattle.rv_image.specs.declared.images.ImageParts.{ImageParts};
+ghost use Rattle.rv_image_types.specs.declared.images.ImageParts.{ImageParts};
 ghost use Rattle.cl_machine.specs.Laws.{ComesAfter};
 ghost use Rattle.cl_machine.specs.Steps.{Step as StepView};
 ghost use Rattle.cl_replay.specs.Checks.{IsVerdict};
@@ -11,7 +11,7 @@ ghost use Rattle.cl_replay.specs.Replaying.{IsReached};
 use crate::faults::StepFault;
 use crate::states::ClusterState;
 use cl_machine::Step;
-use rv_image::Image;
+use rv_image_types::Image;
 use std::alloc::{AllocError, Global};
 
 /// What was found of a list of steps.

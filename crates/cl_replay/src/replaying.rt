@@ -7,7 +7,7 @@ ghost use Rattle.cl_replay.specs.InnerReplaying.{ReplayFaultHolds};
 use crate::faults::WalkFault;
 use crate::states::ClusterState;
 use cl_machine::Step;
-use rv_image::Image;
+use rv_image_types::Image;
 use std::alloc::Global;
 
 /// Why steps weren't replayed.

@@ -12,7 +12,7 @@ use cl_state::RankState;
 use mp_hub::HubState;
 use mp_types::Stamp;
 use part_box::Settled;
-use rv_image::Image;
+use rv_image_types::Image;
 use std::alloc::{AllocError, Global};
 
 /// All parts of a cluster between two steps.

@@ -6,7 +6,7 @@ ghost use Rattle.cl_record.specs.Keys.{bytes_in};
 
 use part_channel::{put_word, word};
 use part_phase::{Contents, box_words};
-use rv_image::ImageVersion;
+use rv_image_types::ImageVersion;
 
 /// The sixteen words of the bytes, 0 past them.
 pub(crate) fn to_words(bytes: &[u8]) -> [u64; 16]

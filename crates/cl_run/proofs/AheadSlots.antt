@@ -9,7 +9,7 @@ use Rattle.std.proofs.lemmas.Bool.{cases_lt, false≢true}
 use Rattle.std.proofs.lemmas.Bool.Decides.{eqb_tells}
 use borrow.Author.Count.{below_more}
 use mathlib.Core.Logic.{inl, inr}
-use Rattle.rv_image.specs.declared.images.ImageParts.{ImageParts}
+use Rattle.rv_image_types.specs.declared.images.ImageParts.{ImageParts}
 use Rattle.cl_calls.specs.declared.sites.Site.{Site}
 use Rattle.cl_journal.specs.Replaying.{HubHistory}
 use Rattle.cl_rank.specs.declared.stops.Stop.{Stop}

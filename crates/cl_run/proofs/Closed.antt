@@ -6,7 +6,7 @@ use Rattle.std.proofs.lemmas.Bool.{false≢true}
 use Rattle.std.proofs.lemmas.List.{length-map}
 use Rattle.std.proofs.lemmas.Option.{same_Some, slice_get_within}
 use Rattle.std.proofs.lemmas.Simd.{map-map}
-use Rattle.rv_image.specs.declared.images.ImageParts.{ImageParts}
+use Rattle.rv_image_types.specs.declared.images.ImageParts.{ImageParts}
 use Rattle.cl_journal.specs.declared.entries.Entry.{Entry}
 use Rattle.cl_machine.specs.Boxes.{box_number}
 use Rattle.cl_machine.specs.Cluster.{IsRun, loaded_cluster}

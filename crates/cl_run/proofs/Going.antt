@@ -1,7 +1,7 @@
 -- Rounds, one behind another.
 use Rattle.std.specs.Prelude.{ℕ, ◌≡◌, ◌≤◌, ◌+◌, ◌*◌, List, length, vec_len}
 use Rattle.std.proofs.Common.{refl, ◌∙◌, subst, arith}
-use Rattle.rv_image.specs.declared.images.ImageParts.{ImageParts}
+use Rattle.rv_image_types.specs.declared.images.ImageParts.{ImageParts}
 use Rattle.cl_record.specs.declared.plans.Plan.{Plan}
 use Rattle.cl_run.specs.declared.driver.Driver.{Driver}
 use Rattle.cl_run.specs.Driver.{AreJoined, AreSeated, left, stations}

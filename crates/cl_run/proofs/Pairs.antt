@@ -3,7 +3,7 @@ use Rattle.std.specs.Prelude.{ℕ, ◌≡◌, ◌<◌, ◌+◌, List, [], ◌∷
 use Rattle.std.proofs.Common.{zero, suc, refl, sym, ap, ◌∙◌, subst, arith}
 use Rattle.std.proofs.lemmas.List.{length-append, length-map}
 use Rattle.std.proofs.lemmas.Option.{same_Some, slice_get-get_or}
-use Rattle.rv_image.specs.declared.images.Link.{Link}
+use Rattle.rv_image_types.specs.declared.images.Link.{Link}
 use Rattle.part_box.specs.declared.view.Receiving.{Receiving}
 use Rattle.part_box.specs.declared.view.Sending.{Sending}
 use Rattle.part_channel.specs.Channels.{ChannelView}

@@ -6,8 +6,8 @@ use Rattle.std.proofs.lemmas.Bool.Decides.{eqb_tells}
 use Rattle.std.proofs.lemmas.List.{map-append, map-set}
 use Rattle.std.proofs.lemmas.Option.{same_Some, slice_get-map}
 use mathlib.Core.Logic.{inl, inr}
-use Rattle.rv_image.specs.declared.images.ImageParts.{ImageParts}
-use Rattle.rv_image.specs.declared.images.Link.{Link}
+use Rattle.rv_image_types.specs.declared.images.ImageParts.{ImageParts}
+use Rattle.rv_image_types.specs.declared.images.Link.{Link}
 use Rattle.cl_journal.specs.Replaying.{HubHistory}
 use Rattle.cl_rank.specs.Turns.{AllStopped}
 use Rattle.cl_calls.specs.declared.sites.Site.{Site}

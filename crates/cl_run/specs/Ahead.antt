@@ -2,7 +2,7 @@
 -- turn whether it is taken in its slot or before.
 use Rattle.std.specs.Prelude.{ℕ, ◌≡◌, ◌≢◌, ◌<◌, ◌≤◌, ◌+◌, ◌-◌, ◌⊎◌, Bool, true, false, List, length, sum_by}
 use Rattle.std.specs.Prelude.{slice_get, slice_index, slice_set, Some, None}
-use Rattle.rv_image.specs.declared.images.ImageParts.{ImageParts}
+use Rattle.rv_image_types.specs.declared.images.ImageParts.{ImageParts}
 use Rattle.part_channel.specs.Channels.{ChannelView}
 use Rattle.cl_rank.specs.Plains.{Repeats}
 use Rattle.cl_rank.specs.RankSides.{AreChannelsOf}

@@ -11,9 +11,9 @@ use Rattle.cl_rank.specs.declared.ranks.Rank.{Rank as RankOfTurns}
 use Rattle.cl_rank.specs.Turns.{all_stopped}
 use Rattle.cl_rank.specs.declared.stops.Stop.{Stop}
 use Rattle.cl_state.specs.Rank.{Rank, below, loaded}
-use Rattle.rv_image.specs.declared.images.ImageParts.{ImageParts}
-use Rattle.rv_image.specs.declared.images.Link.{Link}
-use Rattle.rv_image.specs.Image.{IsLink}
+use Rattle.rv_image_types.specs.declared.images.ImageParts.{ImageParts}
+use Rattle.rv_image_types.specs.declared.images.Link.{Link}
+use Rattle.rv_image_types.specs.Image.{IsLink}
 use Rattle.cl_state.specs.Room.{rank_of}
 use Rattle.cl_record.specs.BoxKeys.{AgreeOn, HasKeysOf}
 use Rattle.cl_record.specs.Leaving.{HaveRoom, IsRecordOf}

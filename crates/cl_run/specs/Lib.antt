@@ -16,3 +16,4 @@ pub mod Driver
 pub mod UnderWay
 pub mod Going
 pub mod Ahead
+pub mod Below

@@ -1,6 +1,6 @@
 -- What is run on one thread.
 use Rattle.std.specs.Prelude.{ℕ, List}
-use Rattle.rv_image.specs.declared.images.ImageParts.{ImageParts}
+use Rattle.rv_image_types.specs.declared.images.ImageParts.{ImageParts}
 use Rattle.cl_record.specs.declared.plans.Plan.{Plan}
 
 -- an image, the plans of its ranks and their order

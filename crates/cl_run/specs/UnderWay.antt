@@ -2,12 +2,12 @@
 use Rattle.std.specs.Prelude.{ℕ, ◌≡◌, ◌≢◌, ◌<◌, ◌≤◌, ◌+◌, ◌%◌, ◌^◌, List, [], ◌∷◌, length, map, slice_get, Some}
 use Rattle.std.specs.Prelude.{IfSome, All, is_some}
 use Rattle.std.specs.List.{filter_map}
-use Rattle.rv_image.specs.declared.images.ImageParts.{ImageParts}
+use Rattle.rv_image_types.specs.declared.images.ImageParts.{ImageParts}
 use Rattle.cl_journal.specs.Journal.{entries_by}
 use Rattle.cl_journal.specs.Replaying.{HubHistory, clock_of}
 use Rattle.cl_journal.specs.declared.entries.Entry.{Entry}
 use Rattle.cl_trace.specs.declared.events.Event.{Event}
-use Rattle.rv_image.specs.declared.images.Link.{Link}
+use Rattle.rv_image_types.specs.declared.images.Link.{Link}
 use Rattle.cl_state.specs.Rank.{site_of}
 use Rattle.cl_machine.specs.Boxes.{Box, box_number}
 use Rattle.cl_machine.specs.Cluster.{Cluster, IsRun, loaded_cluster}

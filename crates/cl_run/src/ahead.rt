@@ -2,7 +2,7 @@
 
 ghost use Rattle.std.specs.Prelude.{◌≡◌, ◌<◌, ◌≤◌, ◌+◌, ◌*◌, ℕ, List, All, None, Some, IsTrue, false, true};
 ghost use Rattle.std.specs.Prelude.{length, slice_get, slice_index, vec_len};
-ghost use Rattle.rv_image.specs.declared.images.ImageParts.{ImageParts};
+ghost use Rattle.rv_image_types.specs.declared.images.ImageParts.{ImageParts};
 ghost use Rattle.cl_record.specs.declared.plans.Plan.{Plan};
 ghost use Rattle.cl_record.specs.declared.seats.Seat.{Seat};
 ghost use Rattle.cl_run.specs.Ahead.{AreNamed, IsAheadOf, MayRunAhead, SlotGoesAhead, Spends, left_ahead};

@@ -2,8 +2,8 @@
 
 ghost use Rattle.std.specs.Prelude.{◌≡◌, ◌<◌, ◌≤◌, ◌+◌, ◌*◌, ℕ, List, None, Some, All, IfOk};
 ghost use Rattle.std.specs.Prelude.{false, true, length, map, slice_get, slice_index, vec_len};
-ghost use Rattle.rv_image.specs.declared.images.ImageParts.{ImageParts};
-ghost use Rattle.rv_image.specs.Image.{IsLink};
+ghost use Rattle.rv_image_types.specs.declared.images.ImageParts.{ImageParts};
+ghost use Rattle.rv_image_types.specs.Image.{IsLink};
 ghost use Rattle.part_box.specs.declared.view.Receiving.{Receiving};
 ghost use Rattle.part_box.specs.declared.view.Sending.{Sending};
 ghost use Rattle.cl_rank.specs.RankSides.{AreChannelsOf, receiver_of, sender_of};
@@ -24,7 +24,7 @@ use cl_journal::Hub;
 use cl_rank::{BoxId, PlainDesk, agree};
 use cl_record::{Lists, Plan, Record, Seat, Wiring, load_seats};
 use part_channel::Channel;
-use rv_image::{Image, Link};
+use rv_image_types::{Image, Link};
 use std::alloc::{AllocError, Global};
 
 /// All ranks, by their numbers, the hub, and the channels, by the numbers of their links.

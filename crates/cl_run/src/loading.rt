@@ -12,7 +12,7 @@ use crate::driver::Driver;
 use crate::ended::Ended;
 use crate::quiet::longest;
 use cl_record::{Lists, Plan, Record, RunFault, are_plans};
-use rv_image::Image;
+use rv_image_types::Image;
 use std::alloc::{AllocError, Global};
 use std::marker::Model;
 

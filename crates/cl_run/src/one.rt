@@ -10,7 +10,7 @@ ghost use Rattle.cl_run.specs.Runs.{IsOneRun};
 use crate::ended::Ended;
 use crate::loading::Loaded;
 use cl_record::{Plan, Record, RunFault};
-use rv_image::Image;
+use rv_image_types::Image;
 use std::alloc::Global;
 
 /// Runs all ranks of the image on one thread, each by its plan, until each is stopped. The order lists ranks by their

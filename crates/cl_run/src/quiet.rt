@@ -1,7 +1,7 @@
 //! A run that is ended where all that is left looks in vain.
 
 ghost use Rattle.std.specs.Prelude.{◌≡◌, ◌<◌, ◌*◌, ℕ, List, All, false, length, slice_index, vec_len};
-ghost use Rattle.rv_image.specs.declared.images.ImageParts.{ImageParts};
+ghost use Rattle.rv_image_types.specs.declared.images.ImageParts.{ImageParts};
 ghost use Rattle.cl_record.specs.declared.plans.Plan.{Plan};
 ghost use Rattle.cl_run.specs.Driver.{AreJoined, AreSeated, IsStoppedAt, stations};
 ghost use Rattle.cl_run.specs.Going.{GoesRounds};

@@ -10,8 +10,8 @@ use Rattle.std.proofs.lemmas.Option.{slice_get_past, slice_get-map}
 use Rattle.std.proofs.lemmas.List.{length-append}
 use Rattle.std.specs.Option.{option_map}
 use mathlib.Core.Logic.{inl, inr}
-use Rattle.rv_image.specs.declared.images.ImageParts.{ImageParts}
-use Rattle.rv_image.specs.declared.images.Link.{Link}
+use Rattle.rv_image_types.specs.declared.images.ImageParts.{ImageParts}
+use Rattle.rv_image_types.specs.declared.images.Link.{Link}
 use Rattle.cl_state.specs.Rank.{Rank, below, loaded}
 use Rattle.cl_rank.specs.Deeds.{Act, Deed, IsStamp, PartRun, RankMoves}
 use Rattle.cl_machine.specs.Joined.{OnItsSide}

@@ -1,8 +1,8 @@
 -- Laws of runs, of merges, and of what a run leaves.
 use Rattle.std.specs.Prelude.{ℕ, ◌<◌, ◌≤◌, List, [], ◌∷◌, ◌++◌, ◌≡◌, ◌↔◌, map, ⊤}
 use Rattle.std.specs.List.{AllByRecursion}
-use Rattle.rv_image.specs.declared.images.ImageParts.{ImageParts}
-use Rattle.rv_image.specs.Image.{IsImage}
+use Rattle.rv_image_types.specs.declared.images.ImageParts.{ImageParts}
+use Rattle.rv_image_types.specs.Image.{IsImage}
 use Rattle.cl_journal.specs.declared.entries.Entry.{Entry}
 use Rattle.cl_rank.specs.Deeds.{Deed, PartRun}
 use Rattle.cl_machine.specs.Boxes.{Box, empty_box}

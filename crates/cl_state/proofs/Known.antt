@@ -18,7 +18,7 @@ use Rattle.part_phase.specs.Limits.{are_parts, box_bytes, is_size}
 use Rattle.part_phase.specs.Phases.{receiving_at, sending_at}
 use Rattle.part_phase.specs.Receiving.{is_left, lowest_from, overlaps}
 use Rattle.part_phase.specs.Sending.{all_freed, is_part_ready, next_to_free}
-use Rattle.rv_image.specs.declared.images.ImageVersion.{ImageVersion}
+use Rattle.rv_image_types.specs.declared.images.ImageVersion.{ImageVersion}
 use Rattle.cl_calls.specs.declared.calls.Call.{Call}
 use Rattle.cl_calls.specs.declared.calls.Call.TheVariants as call
 use Rattle.cl_calls.specs.declared.sites.Site.{Site}

@@ -2,7 +2,7 @@
 use Rattle.std.specs.Prelude.{ℕ, zero, suc, List, [], ◌∷◌, ◌++◌}
 use Rattle.rv_memory.specs.Memory.{Memory, loaded_memory}
 use Rattle.rv_hart.specs.State.{State, start_state}
-use Rattle.rv_image.specs.declared.images.ImageParts.{ImageParts}
+use Rattle.rv_image_types.specs.declared.images.ImageParts.{ImageParts}
 use Rattle.cl_calls.specs.declared.sites.Site.{Site}
 use Rattle.mp_request.specs.Table.{Table, no_requests}
 use Rattle.part_phase.specs.declared.phases.Phase.{Phase}

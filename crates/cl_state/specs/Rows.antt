@@ -3,7 +3,7 @@ use Rattle.std.specs.Prelude.{ℕ, List, [], ◌∷◌, ◌++◌, replicate, tak
 use Rattle.rv_memory.specs.Memory.{Memory}
 use Rattle.rv_hart.specs.State.{State}
 use Rattle.rv_hart.specs.declared.state.Mode.TheVariants.{Running}
-use Rattle.rv_image.specs.declared.images.ImageVersion.TheVariants.{One}
+use Rattle.rv_image_types.specs.declared.images.ImageVersion.TheVariants.{One}
 use Rattle.cl_calls.specs.declared.sites.Site.{Site}
 use Rattle.mp_request.specs.Table.{no_requests}
 use Rattle.cl_state.specs.Rank.{Rank}

@@ -3,7 +3,7 @@
 ghost use Rattle.std.specs.Prelude.{◌≡◌, ◌≤◌, ◌*◌, ◌++◌, ◌∷◌, IfOk, OnOk, length, vec_len};
 ghost use Rattle.mp_request.specs.Table.{no_requests};
 ghost use Rattle.part_phase.specs.Phases.{first_phases};
-ghost use Rattle.rv_image.specs.Image.{IsImage};
+ghost use Rattle.rv_image_types.specs.Image.{IsImage};
 ghost use Rattle.rv_memory.specs.Memory.{loaded_memory};
 ghost use Rattle.cl_state.specs.Rank.{below, loaded, site_of, start_harts};
 
@@ -13,7 +13,7 @@ use cl_calls::{Communicators, Site};
 use mp_request::Requests;
 use part_phase::Phases;
 use rv_hart::Hart;
-use rv_image::{Comms, Image, ImageParts, Links, Members};
+use rv_image_types::{Comms, Image, ImageParts, Links, Members};
 use rv_memory::RankMemory;
 use std::alloc::{AllocError, Global};
 

@@ -19,7 +19,7 @@ use cl_calls::{Call, Partitioning, Site, Standing, receiving_side, sending_side}
 use mp_request::{OpenRequest, Partitions, Requests, State, Transfer};
 use mp_types::Request;
 use part_phase::{Contents, Phases, RecvPhase, SendPhase, box_words};
-use rv_image::ImageVersion;
+use rv_image_types::ImageVersion;
 use rv_memory::RankMemory;
 
 /// What a partitioned request awaits in a phase (MPI 4.1, chapter 4.2).

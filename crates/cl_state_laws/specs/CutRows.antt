@@ -1,6 +1,6 @@
 -- A transfer that its two sides cut differently, as in a worked row: the sender 3 of 64 bytes, the receiver 2 of 96.
 use Rattle.std.specs.Prelude.{◌≡◌, ℕ, List, [], ◌∷◌, ◌++◌, replicate, Bool, true, false}
-use Rattle.rv_image.specs.declared.images.ImageVersion.TheVariants.{Two}
+use Rattle.rv_image_types.specs.declared.images.ImageVersion.TheVariants.{Two}
 use Rattle.rv_memory.specs.Memory.{Memory}
 use Rattle.mp_types.specs.declared.replies.Reply.TheVariants as reply
 use Rattle.mp_types.specs.declared.requests.Request.TheVariants as request

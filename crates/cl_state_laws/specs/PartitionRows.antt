@@ -1,8 +1,8 @@
 -- Worked rows of partitioned calls (MPI 4.1, chapter 4): what each asks and is told.
 use Rattle.std.specs.Prelude.{◌≡◌, ℕ, ◌-◌, List, [], ◌∷◌, ◌++◌, drop, replicate, take, Bool, Option, true, false}
-use Rattle.rv_image.specs.declared.images.ImageVersion.{ImageVersion}
-use Rattle.rv_image.specs.declared.images.ImageVersion.TheVariants.{One}
-use Rattle.rv_image.specs.declared.images.Link.{Link}
+use Rattle.rv_image_types.specs.declared.images.ImageVersion.{ImageVersion}
+use Rattle.rv_image_types.specs.declared.images.ImageVersion.TheVariants.{One}
+use Rattle.rv_image_types.specs.declared.images.Link.{Link}
 use Rattle.rv_memory.specs.Memory.{Memory}
 use Rattle.rv_hart.specs.declared.state.Mode.TheVariants.{Waiting}
 use Rattle.rv_hart.specs.declared.state.Wait.TheVariants.{Again}

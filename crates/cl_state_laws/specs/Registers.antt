@@ -1,6 +1,6 @@
 -- The registers of a rank's harts, in each state that its turns lead to.
 use Rattle.std.specs.Prelude.{ℕ, ◌<◌, ◌≡◌, List, [], ◌∷◌, length}
-use Rattle.rv_image.specs.declared.images.ImageParts.{ImageParts}
+use Rattle.rv_image_types.specs.declared.images.ImageParts.{ImageParts}
 use Rattle.cl_state.specs.declared.asking.Answer.{Answer}
 use Rattle.cl_state.specs.Rank.{Rank, loaded}
 use Rattle.cl_state.specs.Asked.{part_of}

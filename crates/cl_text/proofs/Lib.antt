@@ -1,5 +1,5 @@
 -- The lemmas behind the answers: pieces that are written one after the other, how short a text is; that what is spelled
--- is read again, and that what is read is spelled so, of replies, of steps and of the whole; loops.
+-- is read again, and that what is read is spelled so, of replies, of steps and of the whole; loops; fronts of streams.
 pub mod Pieces
 pub mod Short
 pub mod ReadAgainReplies
@@ -15,3 +15,4 @@ pub mod Blocks
 pub mod OrderFollows
 pub mod OrderSteps
 pub mod Order
+pub mod Fronts

@@ -8,4 +8,5 @@ pub mod ReadingAnswers
 pub mod Order
 pub mod Whole
 pub mod Laws
+pub mod Front
 pub mod Worked

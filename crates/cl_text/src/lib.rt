@@ -1,10 +1,11 @@
 //! The bytes of a record: the image and the steps of its cluster as one text, and back.
 //!
-//! The meaning stands in specs/: the limits of what is spelled, its one text, what bytes are read as, and the tests of
-//! all their parts in order.
+//! The meaning stands in specs/: the limits of what is spelled, its one text, what bytes are read as, the tests of all
+//! their parts in order, and at which byte of a stream it is decided what record it begins with.
 #![tactic(auto)]
 
 mod faults;
+pub mod front;
 mod laws;
 mod numbers;
 mod reading;

@@ -4,8 +4,8 @@ use Rattle.std.specs.Prelude.{Option, Some, None, Bool, true, false, ifâ—Œthenâ—
 use Rattle.std.proofs.Common.{refl, subst, arith}
 use Rattle.std.proofs.lemmas.Bool.{and_parts, eqb-true, leb-true}
 use Rattle.std.proofs.lemmas.List.{length-take}
-use Rattle.rv_image.specs.declared.images.ImageVersion.{ImageVersion}
-use Rattle.rv_image.specs.declared.images.ImageVersion.TheVariants.{One, Two}
+use Rattle.rv_image_types.specs.declared.images.ImageVersion.{ImageVersion}
+use Rattle.rv_image_types.specs.declared.images.ImageVersion.TheVariants.{One, Two}
 use Rattle.rv_memory.specs.Memory.{Memory}
 use Rattle.mp_types.specs.declared.requests.Request.{Request}
 use Rattle.mp_types.specs.declared.requests.Request.TheVariants as request

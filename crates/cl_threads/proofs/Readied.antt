@@ -1,7 +1,7 @@
 -- Seats that are loaded are ready.
 use Rattle.std.specs.Prelude.{ℕ, suc, ◌≡◌, ◌+◌, List, [], ◌∷◌, slice_get, Some}
 use Rattle.std.proofs.Common.{refl, sym, ap, subst, arith}
-use Rattle.rv_image.specs.declared.images.ImageParts.{ImageParts}
+use Rattle.rv_image_types.specs.declared.images.ImageParts.{ImageParts}
 use Rattle.part_channel.specs.Channels.{ChannelView}
 use Rattle.cl_state.specs.Rank.{Rank}
 use Rattle.cl_rank.specs.RankSides.{AreChannelsOf}

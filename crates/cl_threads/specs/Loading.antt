@@ -1,8 +1,8 @@
 -- Ranks, hub and channels before the first turn.
 use Rattle.std.specs.Prelude.{◌≡◌, ◌≤◌, List, [], length, All}
 use Rattle.std.specs.VecDeque.{deque_capacity}
-use Rattle.rv_image.specs.declared.images.ImageParts.{ImageParts}
-use Rattle.rv_image.specs.Image.{IsLink}
+use Rattle.rv_image_types.specs.declared.images.ImageParts.{ImageParts}
+use Rattle.rv_image_types.specs.Image.{IsLink}
 use Rattle.cl_record.specs.Leaving.{HaveRoom}
 use Rattle.cl_record.specs.Seats.{AreAt, AreFresh}
 use Rattle.cl_record.specs.declared.plans.Plan.{Plan}

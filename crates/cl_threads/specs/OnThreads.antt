@@ -1,7 +1,7 @@
 -- What a rank's thread is handed, and what it makes of it.
 use Rattle.std.specs.Prelude.{ℕ, ◌≡◌, ◌≤◌, ⊤, List, [], ◌∷◌, None, length, map}
 use Rattle.std.specs.List.{AllByRecursion}
-use Rattle.rv_image.specs.declared.images.ImageVersion.{ImageVersion}
+use Rattle.rv_image_types.specs.declared.images.ImageVersion.{ImageVersion}
 use Rattle.part_channel.specs.Channels.{ChannelView}
 use Rattle.cl_rank.specs.Deeds.{Deed, PartRun, event_of}
 use Rattle.cl_rank.specs.Alone.{IsAlone}

@@ -1,7 +1,7 @@
 -- Why there is no record of a run with a thread for each rank.
 use Rattle.std.specs.Prelude.{ℕ, ◌≡◌, List, length, slice_get, Some}
-use Rattle.rv_image.specs.declared.images.ImageParts.{ImageParts}
-use Rattle.rv_image.specs.declared.images.Link.{Link}
+use Rattle.rv_image_types.specs.declared.images.ImageParts.{ImageParts}
+use Rattle.rv_image_types.specs.declared.images.Link.{Link}
 use Rattle.cl_journal.specs.declared.entries.Entry.{Entry}
 use Rattle.cl_trace.specs.Traces.{TraceView}
 use Rattle.cl_state.specs.Rank.{Rank, loaded}

@@ -9,7 +9,7 @@ ghost use Rattle.cl_threads.specs.Loading.{IsCluster};
 use cl_journal::Hub;
 use cl_record::{Done, Lists, Plan, Seat, Wiring, load_seats};
 use part_channel::Channel;
-use rv_image::Image;
+use rv_image_types::Image;
 use std::alloc::{AllocError, Global};
 use std::collections::VecDeque;
 

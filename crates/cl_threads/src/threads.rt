@@ -25,7 +25,7 @@ use crate::until::Until;
 use cl_journal::Hub;
 use cl_record::{Done, Lists, Plan, Record, RunFault, has_plans};
 use part_channel::Channel;
-use rv_image::Image;
+use rv_image_types::Image;
 use std::alloc::Global;
 use std::collections::VecDeque;
 use std::sync::{Mutex, Wait};

@@ -1,6 +1,6 @@
 -- A hub that stands for some calls, after one more.
 use Rattle.std.proofs.Common.{◌≡◌, ℕ, List, [], ◌∷◌, ◌++◌, Result, Ok, Err, IfOk, OnOk, sym, ap, ◌∙◌}
-use Rattle.rv_image.specs.declared.images.Link.{Link}
+use Rattle.rv_image_types.specs.declared.images.Link.{Link}
 use Rattle.mp_types.specs.declared.requests.Request.{Request}
 use Rattle.mp_types.specs.declared.replies.Reply.{Reply}
 use Rattle.mp_hub.specs.Hub.{Call, HubView, hub_at_start, outcome, reply_of}

@@ -14,7 +14,7 @@ use crate::posts::are_alike_posts;
 use crate::sides::are_alike_sides;
 use crate::whole::WholeHub;
 use mp_probe::Waiting;
-use rv_image::Link;
+use rv_image_types::Link;
 use std::alloc::{AllocError, Global};
 
 fn is_same_link(a: &Link, b: &Link) -> bool

@@ -4,7 +4,7 @@ ghost use Rattle.std.specs.Prelude.{◌≡◌, ◌++◌, ◌∷◌, [], List, If
 ghost use Rattle.mp_hub.specs.Hub.{Call, hub_at_start, outcome, reply_of};
 ghost use Rattle.mp_hub.specs.InnerOutcomes.{IsOutcome};
 ghost use Rattle.mp_hub.specs.Outcomes.{StandsFor};
-ghost use Rattle.rv_image.specs.declared.images.Link.{Link};
+ghost use Rattle.rv_image_types.specs.declared.images.Link.{Link};
 
 use crate::board::WholeBoard;
 use crate::hub::Answering;
@@ -13,7 +13,7 @@ use mp_hub::{HubParts, HubState};
 use mp_probe::Waiting;
 use mp_transfers::Side;
 use mp_types::{Reply, Request};
-use rv_image::{Image, Link};
+use rv_image_types::{Image, Link};
 use std::alloc::{AllocError, Global};
 use std::marker::Model;
 

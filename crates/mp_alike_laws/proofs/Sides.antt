@@ -5,7 +5,7 @@ use Rattle.std.specs.List.{enumerate_from, list_any, slice_get}
 use Rattle.std.specs.Option.{option_map, option_or}
 use Rattle.std.proofs.lemmas.List.Elements.{filter-append}
 use Rattle.std.proofs.lemmas.List.Folds.{find-append, list_any-append}
-use Rattle.rv_image.specs.declared.images.Link.{Link}
+use Rattle.rv_image_types.specs.declared.images.Link.{Link}
 use Rattle.mp_transfers.specs.declared.sides.Setup.{Setup}
 use Rattle.mp_transfers.specs.declared.sides.Side.{Side}
 use Rattle.mp_transfers.specs.Inits.{is_for, is_other_side, is_reserved, is_same_side, is_sender_over, lowest_link, peer_of, same_transfer, sender_over}

@@ -1,6 +1,6 @@
 -- The laws of alike hubs.
 use Rattle.std.specs.Prelude.{ℕ, ◌≡◌, List, [], ◌∷◌, ◌++◌}
-use Rattle.rv_image.specs.declared.images.Link.{Link}
+use Rattle.rv_image_types.specs.declared.images.Link.{Link}
 use Rattle.mp_types.specs.declared.requests.Request.{Request}
 use Rattle.mp_hub.specs.Hub.{Call, HubView, hub_after, reply_of}
 use Rattle.mp_alike_laws.specs.Renaming.{Renaming, request_by}

@@ -5,7 +5,7 @@ use Rattle.std.specs.List.{slice_get, list_all, enumerate_from}
 use Rattle.std.proofs.lemmas.List.Elements.{filter-append}
 use Rattle.std.proofs.lemmas.Bool.{and_parts, eqb-true, eq-eqb, not-true}
 use Rattle.std.proofs.lemmas.Option.{same_Some}
-use Rattle.rv_image.specs.declared.images.Link.{Link}
+use Rattle.rv_image_types.specs.declared.images.Link.{Link}
 use Rattle.mp_types.specs.declared.codes.Code.TheVariants.{BadRequest, BadMessage, Full, Shape}
 use Rattle.mp_types.specs.declared.replies.Reply.{Reply}
 use Rattle.mp_types.specs.declared.replies.Reply.TheVariants as reply

@@ -1,7 +1,7 @@
 -- When a send is complete (MPI 4.1, chapters 3.4 and 3.8.3).
 use Rattle.std.specs.Prelude.{ℕ, suc, ◌≡◌, ◌⊎◌, false, List, Option, Some}
 use Rattle.std.specs.List.{slice_get, Contains}
-use Rattle.rv_image.specs.declared.images.Link.{Link}
+use Rattle.rv_image_types.specs.declared.images.Link.{Link}
 use Rattle.mp_types.specs.declared.messages.Message.{Message}
 use Rattle.mp_types.specs.declared.requests.Request.TheVariants as request
 use Rattle.mp_types.specs.declared.replies.Reply.TheVariants.{Done, NotYet, AllGot}

@@ -1,6 +1,6 @@
 -- What some calls made and got, as their requests and replies tell it.
 use Rattle.std.specs.Prelude.{ℕ, ◌+◌, List, [], ◌∷◌, ◌++◌, length, Option, Some, None}
-use Rattle.rv_image.specs.declared.images.Link.{Link}
+use Rattle.rv_image_types.specs.declared.images.Link.{Link}
 use Rattle.mp_types.specs.declared.messages.Message.{Message}
 use Rattle.mp_types.specs.declared.requests.Request.{Request}
 use Rattle.mp_types.specs.declared.requests.Request.TheVariants as request

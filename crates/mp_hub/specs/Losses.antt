@@ -1,7 +1,7 @@
 -- Nothing is lost: a message that is there is given to the one who asks for it, and once.
 use Rattle.std.specs.Prelude.{ℕ, suc, ◌≡◌, ◌⊎◌, true, List, [], ◌∷◌, Option, Some, None}
 use Rattle.std.specs.List.{slice_get, Contains}
-use Rattle.rv_image.specs.declared.images.Link.{Link}
+use Rattle.rv_image_types.specs.declared.images.Link.{Link}
 use Rattle.mp_types.specs.declared.messages.Envelope.{Envelope}
 use Rattle.mp_types.specs.declared.messages.Message.{Message}
 use Rattle.mp_types.specs.declared.requests.Request.TheVariants as request

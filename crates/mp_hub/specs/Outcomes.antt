@@ -1,6 +1,6 @@
 -- What a hub's state stands for, and what a call makes of it.
 use Rattle.std.specs.Prelude.{◌≡◌, List}
-use Rattle.rv_image.specs.declared.images.Link.{Link}
+use Rattle.rv_image_types.specs.declared.images.Link.{Link}
 use Rattle.mp_hub.specs.Hub.{HubView, Call, hub_after}
 
 -- a hub's state stands for links and a list of calls

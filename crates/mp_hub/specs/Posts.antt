@@ -1,6 +1,6 @@
 -- The hub's posts are those of its calls, each with its number.
 use Rattle.std.specs.Prelude.{ℕ, ◌≡◌, Bool, List, Option}
-use Rattle.rv_image.specs.declared.images.Link.{Link}
+use Rattle.rv_image_types.specs.declared.images.Link.{Link}
 use Rattle.mp_types.specs.declared.messages.Envelope.{Envelope}
 use Rattle.mp_types.specs.declared.requests.Request.TheVariants as request
 use Rattle.mp_types.specs.declared.replies.Reply.TheVariants.{Posted, Held}

@@ -1,7 +1,7 @@
 -- Whose posts a call may ask for, and which reply belongs to which request.
 use Rattle.std.specs.Prelude.{ℕ, suc, ◌≡◌, ◌⊎◌, Bool, true, false, List, [], ◌∷◌, ◌++◌, length}
 use Rattle.std.specs.List.{Contains}
-use Rattle.rv_image.specs.declared.images.Link.{Link}
+use Rattle.rv_image_types.specs.declared.images.Link.{Link}
 use Rattle.mp_types.specs.declared.codes.Code.{Code}
 use Rattle.mp_types.specs.declared.codes.Code.TheVariants.{BadRequest, Full, NoChannel, Shape, BadMessage}
 use Rattle.mp_types.specs.declared.requests.Request.{Request}

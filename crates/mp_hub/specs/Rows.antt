@@ -1,6 +1,6 @@
 -- Worked calls: what the definitions answer, computed.
 use Rattle.std.specs.Prelude.{ℕ, ◌≡◌, true, false, List, [], ◌∷◌, Option, Some, None}
-use Rattle.rv_image.specs.declared.images.Link.{Link}
+use Rattle.rv_image_types.specs.declared.images.Link.{Link}
 use Rattle.mp_types.specs.declared.messages.Envelope.{Envelope}
 use Rattle.mp_types.specs.declared.messages.Message.{Message}
 use Rattle.mp_types.specs.declared.requests.Request.TheVariants as request

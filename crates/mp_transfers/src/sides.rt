@@ -4,7 +4,7 @@ ghost use Rattle.std.specs.Prelude.{◌≡◌, ◌==◌, ◌≤◌, ◌+◌, len
 ghost use Rattle.mp_transfers.specs.Inits.{is_for, is_other_side, is_receiver, is_reserved, is_same_side, lowest_link};
 ghost use Rattle.mp_transfers.specs.Inits.{peer_of, same_total, same_transfer, sender_over, total_bytes};
 
-use rv_image::Link;
+use rv_image_types::Link;
 
 /// One side of a partitioned transfer as a rank asks for it (MPI 4.1, chapter 4.2).
 #[derive(Clone, Copy)]

@@ -1,7 +1,7 @@
 -- The limits of a shape, by the image's version.
 use Rattle.std.specs.Prelude.{ℕ, ◌*◌, ◌-◌, ◌%◌, ◌==◌, ◌&&◌, nat_le, Bool, List, ◌++◌, length, replicate}
-use Rattle.rv_image.specs.declared.images.ImageVersion.{ImageVersion}
-use Rattle.rv_image.specs.declared.images.ImageVersion.TheVariants.{One, Two}
+use Rattle.rv_image_types.specs.declared.images.ImageVersion.{ImageVersion}
+use Rattle.rv_image_types.specs.declared.images.ImageVersion.TheVariants.{One, Two}
 
 -- the data words of a box
 abbrev pub box_words : ImageVersion → ℕ

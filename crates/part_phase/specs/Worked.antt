@@ -1,7 +1,7 @@
 -- Worked values of phases.
 use Rattle.std.specs.Prelude.{◌≡◌, ℕ, Bool, List, [], ◌∷◌, ◌++◌, map, slice_get, replicate, Option, Some, None, true, false}
-use Rattle.rv_image.specs.declared.images.ImageVersion.{ImageVersion}
-use Rattle.rv_image.specs.declared.images.ImageVersion.TheVariants.{One, Two}
+use Rattle.rv_image_types.specs.declared.images.ImageVersion.{ImageVersion}
+use Rattle.rv_image_types.specs.declared.images.ImageVersion.TheVariants.{One, Two}
 use Rattle.part_phase.specs.declared.phases.Phase.{Phase}
 use Rattle.part_phase.specs.declared.phases.Phase.TheVariants.{Apart, Sending, Receiving}
 use Rattle.part_phase.specs.declared.receiving.RecvPhase.{RecvPhase}

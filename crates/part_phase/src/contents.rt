@@ -4,7 +4,7 @@ ghost use Rattle.std.specs.Prelude.{◌≡◌, ◌≤◌, ◌-◌, ◌++◌, dro
 ghost use Rattle.part_phase.specs.Limits.{box_bytes, padded};
 
 use crate::limits::box_words;
-use rv_image::ImageVersion;
+use rv_image_types::ImageVersion;
 use std::marker::Model;
 
 /// The bytes of a box, 0 behind those of its partition: 64 where it has 8 data words, 128 where it has 16. They take no

@@ -3,7 +3,7 @@
 ghost use Rattle.std.specs.Prelude.{◌≡◌, ◌*◌};
 ghost use Rattle.part_phase.specs.Limits.{are_parts as are_parts_of, box_words as box_words_of, is_size as is_size_of};
 
-use rv_image::ImageVersion;
+use rv_image_types::ImageVersion;
 
 /// How many data words a box has in a run of an image of this version: 8 in version 1, 16 in version 2.
 pub fn box_words(version: ImageVersion) -> usize

@@ -10,7 +10,7 @@ ghost use Rattle.part_phase.specs.Sending.{IsSendPhase, all_freed, one_freed, re
 use crate::receiving::RecvPhase;
 use crate::same::are_same;
 use crate::sending::SendPhase;
-use rv_image::{Link, Links};
+use rv_image_types::{Link, Links};
 use std::alloc::{AllocError, Global};
 use std::marker::Model;
 

@@ -7,7 +7,7 @@ ghost use Rattle.part_phase.specs.Receiving.{overlaps as overlaps_in, shaped_rec
 
 use crate::limits::{are_parts, is_size};
 use crate::marks::{is_marked, with_mark};
-use rv_image::ImageVersion;
+use rv_image_types::ImageVersion;
 
 /// The receiver's side of a link: its shape, the sender's cut, and how far this phase is.
 #[derive(Clone, Copy, Drop)]

@@ -7,7 +7,7 @@
 //! another (`desk`, `meeting`). A program near the top has its price, so these stand in one.
 //!
 //! A call that is refused memory is told in a line that begins with `memory`, and made once more. So all that a refused
-//! request may do is to add such a line. `tests/refused` refuses each in turn; the runs are last, since it refuses of
+//! request may do is to add such a line. `tests/checks/refused` refuses each in turn; the runs are last, since it refuses of
 //! those not each. That a refused call changes nothing is proved, and isn't looked at here.
 #![tactic(auto)]
 
@@ -33,7 +33,7 @@ use crate::turning::print_turns;
 use crate::walking::{print_places, print_walk};
 use cl_record::Record;
 use cl_replay::{Step, Verdict};
-use rv_image::Image;
+use rv_image_types::Image;
 use std::io;
 use std::io::Read;
 use std::sync::Wait;

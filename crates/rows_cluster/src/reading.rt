@@ -5,7 +5,8 @@ ghost use Rattle.cl_text.specs.Limits.{FitSteps};
 
 use cl_replay::{ClusterState, ReplayFault, Step, replay};
 use cl_text::{RecordFault, read_record, write_record};
-use rv_image::{Image, ImageFault, read_image, write_image};
+use rv_image::{ImageFault, read_image, write_image};
+use rv_image_types::Image;
 use std::io;
 
 /// Says that a call was refused memory.

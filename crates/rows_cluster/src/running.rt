@@ -7,7 +7,7 @@ use cl_record::{Plan, Record, RunFault};
 use cl_replay::{Step, Verdict, check};
 use cl_run::run_one;
 use cl_threads::{Pace, run_threads};
-use rv_image::Image;
+use rv_image_types::Image;
 use std::alloc::{AllocError, Global};
 use std::io;
 use std::sync::Wait;

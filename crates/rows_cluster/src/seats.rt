@@ -1,14 +1,14 @@
 //! Ranks that take their turns one by one.
 
 ghost use Rattle.std.specs.Prelude.{◌≡◌, ◌≤◌, All, length};
-ghost use Rattle.rv_image.specs.Image.{IsLink};
+ghost use Rattle.rv_image_types.specs.Image.{IsLink};
 ghost use Rattle.cl_record.specs.Wiring.{AreAllNew, AreNewEnds, sides_in};
 
 use cl_journal::Hub;
 use cl_rank::{Rank, RankState, Stop};
 use cl_record::Ends;
 use part_channel::Channel;
-use rv_image::Image;
+use rv_image_types::Image;
 use std::alloc::{AllocError, Global};
 use std::marker::Model;
 

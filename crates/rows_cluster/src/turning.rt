@@ -7,7 +7,7 @@ use cl_journal::Hub;
 use cl_rank::Stop;
 use cl_record::Wiring;
 use cl_replay::ClusterState;
-use rv_image::Image;
+use rv_image_types::Image;
 use std::io;
 
 /// The most rounds of turns.

@@ -4,7 +4,7 @@ use crate::reading::{read_steps, tell};
 use cl_debug::{DebugFault, Debugger};
 use cl_rank::RankState;
 use cl_replay::{ClusterState, Step, StepFault};
-use rv_image::Image;
+use rv_image_types::Image;
 use std::io;
 
 /// Whether two ranks came to one clock, and put out the same.

@@ -1,6 +1,6 @@
 -- Text and data have the bytes of their statements.
 use Rattle.std.proofs.Common.{◌≡◌, ℕ, ◌*◌, length, List, Ok, refl, sym, ap, subst, ◌∙◌, arith}
-use Rattle.rv_image.specs.declared.images.ImageParts.{ImageParts}
+use Rattle.rv_image_types.specs.declared.images.ImageParts.{ImageParts}
 use Rattle.rv_asm_statements.specs.declared.directives.Alignment.TheVariants.{One, Two, Four, Eight, Sixteen}
 use Rattle.rv_asm_statements.specs.declared.directives.Directive.{Directive}
 use Rattle.rv_asm_statements.specs.declared.directives.Directive.TheVariants as directive

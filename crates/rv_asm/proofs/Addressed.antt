@@ -9,9 +9,9 @@ use Rattle.std.specs.List.{cons_option}
 use Rattle.std.specs.Option.{option_map}
 use Rattle.std.specs.Str.{bytes_eq}
 use Rattle.std.specs.Str.Lines.{lines}
-use Rattle.rv_image.specs.declared.images.Symbol.{Symbol}
-use Rattle.rv_image.specs.Image.{IsSymbol, data_start, symbol_names}
-use Rattle.rv_image.specs.Names.{RisingNames, is_symbol_name}
+use Rattle.rv_image_types.specs.declared.images.Symbol.{Symbol}
+use Rattle.rv_image_types.specs.Image.{IsSymbol, data_start, symbol_names}
+use Rattle.rv_image_types.specs.Names.{RisingNames, is_symbol_name}
 use Rattle.rv_asm_tokens.specs.declared.fault.AsmFaultKind.TheVariants as kinds
 use Rattle.rv_asm_tokens.specs.Fault.{◌>>=◌, wanted}
 use Rattle.rv_asm_statements.specs.declared.directives.Directive.TheVariants as directive

@@ -1,6 +1,6 @@
 -- An image is what the directives of its source say.
 use Rattle.std.proofs.Common.{◌≡◌, ℕ, List, [], ◌∷◌, Option, Some, None, Ok, option_to_list, unwrap_or, refl, sym, ap, subst, ◌∙◌}
-use Rattle.rv_image.specs.declared.images.ImageParts.{ImageParts}
+use Rattle.rv_image_types.specs.declared.images.ImageParts.{ImageParts}
 use Rattle.rv_asm_lines.specs.Layout.{Layout, addresses, layout_of}
 use Rattle.rv_asm_lines.specs.Output.{Output, empty_output, items_from}
 use Rattle.rv_asm.specs.Directed.{BeginsAt, IsDirected, IsSaid, entry_said, said_by}

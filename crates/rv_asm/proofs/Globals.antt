@@ -13,7 +13,7 @@ use Rattle.std.specs.Ordering.{is_eq, match_ordering, nat_cmp, ordering_reverse}
 use Rattle.std.specs.declared.cmp.Ordering.{Ordering}
 use Rattle.std.specs.declared.cmp.Ordering.TheVariants.{Less, Equal, Greater}
 use Rattle.std.specs.Str.{bytes_eq}
-use Rattle.rv_image.specs.Names.{RisingNames, is_symbol_name}
+use Rattle.rv_image_types.specs.Names.{RisingNames, is_symbol_name}
 use Rattle.rv_asm_tokens.specs.declared.fault.AsmFaultKind.TheVariants as kinds
 use Rattle.rv_asm_tokens.specs.Fault.{if_some}
 use Rattle.rv_asm_statements.specs.declared.directives.Directive.TheVariants as directive

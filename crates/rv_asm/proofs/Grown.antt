@@ -3,8 +3,8 @@ use Rattle.std.proofs.Common.{◌≡◌, ℕ, ◌+◌, ◌<◌, ◌%◌, List, [
 use Rattle.std.proofs.lemmas.List.Elements.{All-append, All-from_recursion}
 use Rattle.std.specs.Prelude.{codes, not, ◌&&◌, if◌then◌else◌}
 use Rattle.std.specs.Str.{bytes_eq}
-use Rattle.rv_image.specs.declared.images.Link.{Link}
-use Rattle.rv_image.specs.Image.{IsCommunicator, IsLink}
+use Rattle.rv_image_types.specs.declared.images.Link.{Link}
+use Rattle.rv_image_types.specs.Image.{IsCommunicator, IsLink}
 use Rattle.rv_asm_tokens.specs.declared.fault.AsmFaultKind.TheVariants as kinds
 use Rattle.rv_asm_tokens.specs.Fault.{◌>>=◌, wanted}
 use Rattle.rv_asm_statements.specs.declared.directives.Directive.{Directive}

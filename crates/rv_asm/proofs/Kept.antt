@@ -2,7 +2,7 @@
 use Rattle.std.proofs.Common.{◌≡◌, ℕ, ◌+◌, List, [], ◌∷◌, ◌++◌, Option, Some, None, Ok, Bool, true, false, is_some, nat_lt, refl, ap, subst}
 use Rattle.std.specs.Option.{option_map}
 use Rattle.std.specs.Prelude.{if◌then◌else◌}
-use Rattle.rv_image.specs.Names.{is_symbol_name}
+use Rattle.rv_image_types.specs.Names.{is_symbol_name}
 use Rattle.rv_asm_tokens.specs.declared.fault.AsmFaultKind.TheVariants as kinds
 use Rattle.rv_asm_tokens.specs.Fault.{◌>>=◌, if_some, wanted}
 use Rattle.rv_asm_tokens.specs.Lexeme.{Lexeme, name, colon}

@@ -2,8 +2,8 @@
 use Rattle.std.proofs.Common.{◌≡◌, ℕ, suc, List, [], ◌∷◌, ◌++◌, length, Ok, Bool, true, false, not, ltb, eqb, leb, refl, sym, ap, subst, ◌∙◌, arith, append_assoc, append-nil, ℤ, pos, negsuc}
 use Rattle.std.specs.List.{list_any}
 use Rattle.std.proofs.lemmas.Bool.{and_parts, eqb-false, leb-true, ltb-true}
-use Rattle.rv_image.specs.declared.images.Link.{Link}
-use Rattle.rv_image.specs.Image.{IsCommunicator, IsLink}
+use Rattle.rv_image_types.specs.declared.images.Link.{Link}
+use Rattle.rv_image_types.specs.Image.{IsCommunicator, IsLink}
 use Rattle.rv_image.specs.Reading.{is_new_rank, is_within}
 use Rattle.rv_image.proofs.Distinct.{AllAfter, AllAfter-distinct, AllAfter-there, IsNewRank, not_true, nothing_distinct}
 use Rattle.rv_asm_tokens.specs.declared.fault.AsmFaultKind.TheVariants as kinds

@@ -3,7 +3,7 @@ use Rattle.std.proofs.Common.{◌≡◌, ℕ, zero, suc, ◌+◌, List, [], ◌�
 use Rattle.std.proofs.lemmas.List.Elements.{All-append, All-cons, All-nil}
 use Rattle.std.specs.Prelude.{All, ◌&&◌, ◌^◌, ◌==◌, nat_le, neg_ℤ, pos, if◌then◌else◌}
 use Rattle.std.specs.List.{list_all, prefix_len}
-use Rattle.rv_image.specs.Names.{is_symbol_name}
+use Rattle.rv_image_types.specs.Names.{is_symbol_name}
 use Rattle.rv_asm_tokens.specs.declared.fault.AsmFaultKind.{AsmFaultKind}
 use Rattle.rv_asm_tokens.specs.declared.fault.AsmFaultKind.TheVariants as kinds
 use Rattle.rv_asm_tokens.specs.Digits.{is_digit, magnitude}

@@ -3,8 +3,8 @@ use Rattle.std.specs.Prelude.{◌≡◌, ℕ, ◌+◌, ◌*◌, ◌%◌, ◌<◌
 use Rattle.std.specs.Prelude.{None, Ok, unwrap_or}
 use Rattle.std.specs.List.{filter_map}
 use Rattle.rv_decode.specs.declared.instruction.Instr.{Instr}
-use Rattle.rv_image.specs.declared.images.ImageParts.{ImageParts}
-use Rattle.rv_image.specs.declared.images.Link.{Link}
+use Rattle.rv_image_types.specs.declared.images.ImageParts.{ImageParts}
+use Rattle.rv_image_types.specs.declared.images.Link.{Link}
 use Rattle.rv_asm_statements.specs.declared.directives.Alignment.TheVariants.{One, Two, Four, Eight, Sixteen}
 use Rattle.rv_asm_statements.specs.declared.directives.Directive.{Directive}
 use Rattle.rv_asm_statements.specs.declared.directives.Directive.TheVariants as directive

@@ -1,9 +1,9 @@
 -- What the code answers of a source, and what an image of one keeps.
 use Rattle.std.specs.Prelude.{◌≡◌, ℕ, ◌+◌, ◌%◌, ◌<◌, ◌≤◌, All, List, length, Option, Some, None, Result, Ok, Err}
 use Rattle.std.specs.Prelude.{nat_le}
-use Rattle.rv_image.specs.declared.images.Symbol.{Symbol}
-use Rattle.rv_image.specs.Image.{IsCommunicator, IsLink, IsSymbol, data_start, symbol_names}
-use Rattle.rv_image.specs.Names.{RisingNames, is_symbol_name}
+use Rattle.rv_image_types.specs.declared.images.Symbol.{Symbol}
+use Rattle.rv_image_types.specs.Image.{IsCommunicator, IsLink, IsSymbol, data_start, symbol_names}
+use Rattle.rv_image_types.specs.Names.{RisingNames, is_symbol_name}
 use Rattle.rv_asm_tokens.specs.declared.fault.AsmFault.{AsmFault}
 use Rattle.rv_asm_tokens.specs.declared.fault.AsmFaultKind.{AsmFaultKind}
 use Rattle.rv_asm_tokens.specs.declared.fault.AsmFaultKind.TheVariants as kinds

@@ -3,7 +3,7 @@
 ghost use Rattle.std.specs.Prelude.{◌≡◌, ◌≤◌, ◌<◌, ◌+◌, ◌*◌, ◌^◌, ◌&&◌, length, nat_le, if◌then◌else◌, MatchResult};
 ghost use Rattle.std.specs.Prelude.{IfOk, IfErr, OnOk, Ok, Err, Some, List, ℕ, [], true};
 ghost use Rattle.std.specs.Str.Lines.{lines};
-ghost use Rattle.rv_image.specs.Image.{data_start};
+ghost use Rattle.rv_image_types.specs.Image.{data_start};
 ghost use Rattle.rv_asm_tokens.specs.declared.fault.AsmFaultKind.TheVariants as kinds;
 ghost use Rattle.rv_asm_tokens.specs.Returned.{Fails};
 ghost use Rattle.rv_asm_lines.specs.Refused.{NoFault};
@@ -16,7 +16,7 @@ ghost use Rattle.rv_asm_lines.specs.Fields.{ranks_of as ranks_meant};
 ghost use Rattle.rv_asm_lines.specs.Output.{items_from, empty_output};
 ghost use Rattle.rv_asm_lines.specs.OutputView.{output_view};
 ghost use Rattle.rv_asm_lines.specs.Places.{AreSound, HoldCode};
-ghost use Rattle.rv_image.specs.declared.images.Symbol.{Symbol};
+ghost use Rattle.rv_image_types.specs.declared.images.Symbol.{Symbol};
 ghost use Rattle.rv_asm.specs.Source.{finished, fits_memory, meaning, parts_of};
 ghost use Rattle.rv_asm.specs.Made.{FailsAt, IsWhole};
 
@@ -28,7 +28,7 @@ use rv_asm_lines::{
 };
 use rv_asm_statements::{Statement, Width, long_data, parse_statement};
 use rv_asm_tokens::{AsmFault, AsmFaultKind, Tokens};
-use rv_image::{Comms, Image, ImageParts, ImageVersion, Links, Segment, Symbols};
+use rv_image_types::{Comms, Image, ImageParts, ImageVersion, Links, Segment, Symbols};
 use std::alloc::{AllocError, Global};
 use std::collections::BTreeSet;
 

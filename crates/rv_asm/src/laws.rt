@@ -2,8 +2,8 @@
 
 ghost use Rattle.std.specs.Prelude.{◌≡◌, Ok};
 ghost use Rattle.std.specs.Str.Lines.{lines};
-ghost use Rattle.rv_image.specs.declared.images.ImageParts.{ImageParts};
-ghost use Rattle.rv_image.specs.declared.images.ImageVersion.TheVariants.{Two};
+ghost use Rattle.rv_image_types.specs.declared.images.ImageParts.{ImageParts};
+ghost use Rattle.rv_image_types.specs.declared.images.ImageVersion.TheVariants.{Two};
 ghost use Rattle.rv_asm_lines.specs.Layout.{Layout as Laid, layout_of};
 ghost use Rattle.rv_asm_lines.specs.Places.{IsPlaced, LabelsStay};
 ghost use Rattle.rv_asm.specs.Directed.{IsDirected, PartsAddUp};

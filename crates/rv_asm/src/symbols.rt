@@ -6,7 +6,7 @@ ghost use Rattle.rv_asm_lines.specs.Resolved.{address_in};
 ghost use Rattle.rv_asm.specs.Source.{symbols_in};
 
 use rv_asm_lines::{Layout, find_label};
-use rv_image::{Symbol, SymbolName, Symbols};
+use rv_image_types::{Symbol, SymbolName, Symbols};
 use std::alloc::{AllocError, Global};
 
 /// Adds a symbol.

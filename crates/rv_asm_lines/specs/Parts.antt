@@ -1,6 +1,6 @@
 -- The two parts of a source, and how long statements are.
 use Rattle.std.specs.Prelude.{ℕ, ◌+◌, ◌-◌, ◌*◌, ◌%◌, length, Bool, true, false}
-use Rattle.rv_image.specs.Image.{data_start}
+use Rattle.rv_image_types.specs.Image.{data_start}
 use Rattle.rv_asm_statements.specs.declared.directives.Alignment.{Alignment}
 use Rattle.rv_asm_statements.specs.declared.directives.Alignment.TheVariants.{One, Two, Four, Eight, Sixteen}
 use Rattle.rv_asm_statements.specs.declared.directives.Directive.{Directive}

@@ -8,7 +8,7 @@ ghost use Rattle.rv_asm_lines.specs.Data.{link_between as link_meant};
 
 use rv_asm_statements::Integer;
 use rv_asm_tokens::AsmFaultKind;
-use rv_image::Link;
+use rv_image_types::Link;
 use std::alloc::Global;
 
 /// A rank of the image that was not named before, else `Directive`.

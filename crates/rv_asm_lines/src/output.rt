@@ -19,7 +19,7 @@ use crate::layout::Layout;
 use crate::parts::{Part, Place, address_of};
 use rv_asm_statements::{Directive, Integer, Statement};
 use rv_asm_tokens::{AsmFaultKind, Number};
-use rv_image::{Link, Members};
+use rv_image_types::{Link, Members};
 use std::alloc::Global;
 
 /// What is made so far: the parts' bytes, where every hart begins, the communicators and the links.

@@ -8,8 +8,8 @@ use Rattle.rv_decode.specs.declared.instruction.Instr.{Instr}
 use Rattle.rv_decode.specs.Table.{written_word}
 use Rattle.rv_decode.specs.WordOf.{Fits}
 use Rattle.rv_decode.specs.Text.{instr_text}
-use Rattle.rv_image.specs.declared.images.ImageParts.{ImageParts}
-use Rattle.rv_image.specs.Image.{data_start}
+use Rattle.rv_image_types.specs.declared.images.ImageParts.{ImageParts}
+use Rattle.rv_image_types.specs.Image.{data_start}
 use Rattle.rv_asm_tokens.specs.declared.fault.AsmFault.{AsmFault}
 use Rattle.rv_asm_tokens.specs.declared.fault.AsmFaultKind.{AsmFaultKind}
 use Rattle.rv_asm_tokens.specs.declared.fault.AsmFaultKind.TheVariants as kinds

@@ -5,8 +5,8 @@ use Rattle.std.specs.Int.{w32, to_le_bytes}
 use Rattle.rv_decode.specs.declared.instruction.Instr.{Instr}
 use Rattle.rv_decode.specs.Table.{written_word}
 use Rattle.rv_decode.specs.Text.{instr_text}
-use Rattle.rv_image.specs.declared.images.ImageParts.{ImageParts}
-use Rattle.rv_image.specs.declared.images.ImageVersion.TheVariants.{Two}
+use Rattle.rv_image_types.specs.declared.images.ImageParts.{ImageParts}
+use Rattle.rv_image_types.specs.declared.images.ImageVersion.TheVariants.{Two}
 use Rattle.rv_asm_tokens.specs.Lexeme.{Lexeme}
 use Rattle.rv_asm_tokens.specs.Scan.{tokens_of}
 use Rattle.rv_asm_statements.specs.declared.mnemonics.Use.{Use}

@@ -32,7 +32,7 @@ use crate::operand_list::{Operand, Operands};
 use crate::shapes::{label_target, number_in, number_target};
 use crate::values::{Integer, Label};
 use rv_asm_tokens::{AsmFaultKind, Number, Tokens, ZERO, text_bytes, value_of};
-use rv_image::is_symbol_name;
+use rv_image_types::is_symbol_name;
 use std::alloc::{AllocError, Global};
 
 fn only_number(operands: &[Operand<'_>]) -> Option<Number>

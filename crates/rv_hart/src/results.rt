@@ -153,7 +153,7 @@ fn sraw(a: u64, amount: u32) -> u64
 // ---- products
 //
 // Upper halves, quotients and remainders of signed numbers stand by themselves: they are seldom asked for, and with them
-// inside the step it grows so large that the compiler leaves it outside its loops (tests/symbols).
+// inside the step it grows so large that the compiler leaves it outside its loops (tests/checks/symbols).
 
 #[inline(always)]
 fn product(a: i64, b: i64) -> i128

@@ -11,10 +11,10 @@ use Rattle.std.proofs.lemmas.Nat.{le_bytes_2, le_bytes_4, from_le_bytes-to_le_by
 use Rattle.std.proofs.lemmas.Slice.Eq.{starts_is}
 use Rattle.rv_image.specs.declared.faults.ImageFault.{ImageFault}
 use Rattle.rv_image.specs.declared.header.Header.{Header}
-use Rattle.rv_image.specs.declared.images.ImageVersion.{ImageVersion}
-use Rattle.rv_image.specs.declared.images.ImageVersion.TheVariants.{One, Two}
-use Rattle.rv_image.specs.declared.images.ImageParts.{ImageParts}
-use Rattle.rv_image.specs.Image.{IsImage, data_start, most_symbols}
+use Rattle.rv_image_types.specs.declared.images.ImageVersion.{ImageVersion}
+use Rattle.rv_image_types.specs.declared.images.ImageVersion.TheVariants.{One, Two}
+use Rattle.rv_image_types.specs.declared.images.ImageParts.{ImageParts}
+use Rattle.rv_image_types.specs.Image.{IsImage, data_start, most_symbols}
 use Rattle.rv_image.specs.Text.{version_number, header_text}
 use Rattle.rv_image.specs.Reading.{byte_at, number_at, version_of, header_at, is_within, number_tests, header_tests, first_fault}
 use Rattle.rv_image.proofs.Takes.{IsBytes, IsBytes-drop}

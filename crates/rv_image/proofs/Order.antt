@@ -6,9 +6,9 @@ use Rattle.std.proofs.lemmas.List.{take_more, get_or-drop, length-drop, length_p
 use Rattle.rv_image.specs.declared.faults.ImageFault.{ImageFault}
 use Rattle.rv_image.specs.declared.faults.ImageFault.TheVariants as faults
 use Rattle.rv_image.specs.declared.header.Header.{Header}
-use Rattle.rv_image.specs.declared.images.Link.{Link}
-use Rattle.rv_image.specs.declared.images.Symbol.{Symbol}
-use Rattle.rv_image.specs.declared.images.ImageParts.{ImageParts}
+use Rattle.rv_image_types.specs.declared.images.Link.{Link}
+use Rattle.rv_image_types.specs.declared.images.Symbol.{Symbol}
+use Rattle.rv_image_types.specs.declared.images.ImageParts.{ImageParts}
 use Rattle.rv_image.specs.Reading.{◌>>=◌, byte_at, header_at, header_tests, first_fault, is_within, is_new_rank, next_byte, next_bytes, repeated, next_member, comm_at, next_comm, second_rank, link_at, next_link, next_symbol, body_at, reading}
 use Rattle.rv_image.specs.Order.{is_there, member_tests, comm_tests, comm_start, comms_tests, link_tests, links_tests, symbol_tests, symbol_start, name_ahead, symbols_tests, end_tests, rest_tests, body_tests, image_tests, FirstFaultLaw}
 use Rattle.rv_image.proofs.Numbers.{tested}

@@ -5,8 +5,8 @@ use Rattle.std.proofs.lemmas.Bool.{cases_lt, lt-ltb, le-ltb, le-leb, lt-leb}
 use Rattle.std.proofs.lemmas.List.{take-take, get_or-take, get_or-drop, drop-drop, length-drop, length_push}
 use Rattle.rv_image.specs.declared.faults.ImageFault.{ImageFault}
 use Rattle.rv_image.specs.declared.faults.ImageFault.TheVariants as faults
-use Rattle.rv_image.specs.declared.images.Symbol.{Symbol}
-use Rattle.rv_image.specs.Names.{is_within, is_symbol_name, name_before}
+use Rattle.rv_image_types.specs.declared.images.Symbol.{Symbol}
+use Rattle.rv_image_types.specs.Names.{is_within, is_symbol_name, name_before}
 use Rattle.rv_image.specs.Reading.{byte_at, number_at, next_bytes, last_name, is_next_symbol, named_at, symbol_at, next_symbol}
 use Rattle.rv_image.specs.Order.{name_at, symbol_tests, symbol_start, name_ahead}
 use Rattle.rv_image.proofs.OrderFollows.{Follows, IsLeft, IsAt, follows_then, follows_map, follows_test}

@@ -8,9 +8,9 @@ use Rattle.std.specs.Cmp.Lexicographic.{slice_cmp, nat_list_cmp_total}
 use Rattle.std.specs.declared.cmp.Ordering.{Ordering}
 use Rattle.std.specs.declared.cmp.Ordering.TheVariants.{Less, Equal, Greater}
 use Rattle.std.proofs.lemmas.List.Elements.{All-from_recursion, recursion_from_All}
-use Rattle.rv_image.specs.declared.images.Symbol.{Symbol}
-use Rattle.rv_image.specs.Image.{IsSymbol, symbol_names}
-use Rattle.rv_image.specs.Names.{is_symbol_name, name_before, RisingNames}
+use Rattle.rv_image_types.specs.declared.images.Symbol.{Symbol}
+use Rattle.rv_image_types.specs.Image.{IsSymbol, symbol_names}
+use Rattle.rv_image_types.specs.Names.{is_symbol_name, name_before, RisingNames}
 use Rattle.rv_image.specs.Reading.{last_name}
 use Rattle.rv_image.proofs.Distinct.{AllAfter}
 

@@ -6,8 +6,8 @@ use Rattle.std.proofs.lemmas.List.{append-nil}
 use Rattle.std.proofs.lemmas.List.Concat.{flat_map-cons}
 use Rattle.rv_image.specs.declared.faults.ImageFault.{ImageFault}
 use Rattle.rv_image.specs.declared.faults.ImageFault.TheVariants as faults
-use Rattle.rv_image.specs.declared.images.Link.{Link}
-use Rattle.rv_image.specs.Image.{IsCommunicator, IsLink}
+use Rattle.rv_image_types.specs.declared.images.Link.{Link}
+use Rattle.rv_image_types.specs.Image.{IsCommunicator, IsLink}
 use Rattle.rv_image.specs.Text.{comm_text, link_text}
 use Rattle.rv_image.specs.Reading.{◌>>=◌, is_within, is_new_rank, next_byte, repeated, next_member, comm_at, next_comm, link_at, next_link}
 use Rattle.rv_image.proofs.Takes.{IsBytes, bind_ok, want_ok, ok_is, Takes, Takes-then, byte_takes}

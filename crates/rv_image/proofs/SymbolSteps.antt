@@ -5,9 +5,9 @@ use Rattle.std.proofs.Math.ListN.{drop_of_length-le}
 use Rattle.std.proofs.lemmas.Bool.{and_parts, and_from, leb-true, le-leb}
 use Rattle.std.proofs.lemmas.Nat.{from_le_bytes-to_le_bytes_4}
 use Rattle.rv_image.specs.declared.faults.ImageFault.TheVariants as faults
-use Rattle.rv_image.specs.declared.images.Symbol.{Symbol}
-use Rattle.rv_image.specs.Image.{IsSymbol}
-use Rattle.rv_image.specs.Names.{is_within, is_symbol_name, name_before}
+use Rattle.rv_image_types.specs.declared.images.Symbol.{Symbol}
+use Rattle.rv_image_types.specs.Image.{IsSymbol}
+use Rattle.rv_image_types.specs.Names.{is_within, is_symbol_name, name_before}
 use Rattle.rv_image.specs.Text.{symbol_text}
 use Rattle.rv_image.specs.Reading.{byte_at, number_at, next_bytes, last_name, is_next_symbol, named_at, symbol_at, next_symbol}
 use Rattle.rv_image.proofs.Takes.{IsBytes, bind_ok, want_ok, ok_is, Takes, Takes-then, bytes_take, bytes_front, bytes_again}

@@ -8,11 +8,11 @@ use Rattle.std.proofs.lemmas.Bool.{and_parts, leb-true, ltb-true, eqb-true}
 use Rattle.std.proofs.lemmas.List.{append-nil, nil_from_length}
 use Rattle.rv_image.specs.declared.faults.ImageFault.TheVariants as faults
 use Rattle.rv_image.specs.declared.header.Header.{Header}
-use Rattle.rv_image.specs.declared.images.Link.{Link}
-use Rattle.rv_image.specs.declared.images.Symbol.{Symbol}
-use Rattle.rv_image.specs.declared.images.ImageParts.{ImageParts}
-use Rattle.rv_image.specs.Image.{IsCommunicator, IsLink, IsSymbol, IsImage, data_start, most_symbols, symbol_names}
-use Rattle.rv_image.specs.Names.{RisingNames}
+use Rattle.rv_image_types.specs.declared.images.Link.{Link}
+use Rattle.rv_image_types.specs.declared.images.Symbol.{Symbol}
+use Rattle.rv_image_types.specs.declared.images.ImageParts.{ImageParts}
+use Rattle.rv_image_types.specs.Image.{IsCommunicator, IsLink, IsSymbol, IsImage, data_start, most_symbols, symbol_names}
+use Rattle.rv_image_types.specs.Names.{RisingNames}
 use Rattle.rv_image.specs.Text.{comm_text, link_text, symbol_text, header_text, body_text, image_text}
 use Rattle.rv_image.specs.Reading.{header_at, is_within, header_tests, first_fault, repeated, next_bytes, next_comm, next_link, next_symbol, body_at, reading}
 use Rattle.rv_image.proofs.Takes.{IsBytes, IsBytes-drop, bind_ok, want_ok, unless_ok, ok_is, bytes_take, bytes_again}

@@ -8,7 +8,7 @@ use Rattle.rv_image.specs.declared.faults.ImageFault.{ImageFault}
 use Rattle.rv_image.specs.declared.faults.ImageFault.TheVariants as faults
 use Rattle.rv_image.specs.declared.faults.ImageFault.TheVariants.{Short, Long, Comm}
 use Rattle.rv_image.specs.declared.header.Header.{Header}
-use Rattle.rv_image.specs.Names.{is_within, is_symbol_name, name_before}
+use Rattle.rv_image_types.specs.Names.{is_within, is_symbol_name, name_before}
 use Rattle.rv_image.specs.Reading.{byte_at, number_at, header_at, is_new_rank, header_tests, first_fault, reading}
 
 -- Each row is a test: what has to hold, and the fault where it doesn't. Offsets count from the first byte of the image.

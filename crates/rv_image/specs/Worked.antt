@@ -5,11 +5,11 @@ use Rattle.std.specs.List.{range_with_len}
 use Rattle.rv_image.specs.declared.faults.ImageFault.{ImageFault}
 use Rattle.rv_image.specs.declared.faults.ImageFault.TheVariants as faults
 use Rattle.rv_image.specs.declared.faults.ImageFault.TheVariants.{Short, Long, Magic, Version, Limit, Comm}
-use Rattle.rv_image.specs.declared.images.ImageVersion.TheVariants.{One, Two}
-use Rattle.rv_image.specs.declared.images.Symbol.{Symbol}
-use Rattle.rv_image.specs.declared.images.ImageParts.{ImageParts}
-use Rattle.rv_image.specs.Image.{data_start, in_version_two}
-use Rattle.rv_image.specs.Names.{is_symbol_name, name_before}
+use Rattle.rv_image_types.specs.declared.images.ImageVersion.TheVariants.{One, Two}
+use Rattle.rv_image_types.specs.declared.images.Symbol.{Symbol}
+use Rattle.rv_image_types.specs.declared.images.ImageParts.{ImageParts}
+use Rattle.rv_image_types.specs.Image.{data_start, in_version_two}
+use Rattle.rv_image_types.specs.Names.{is_symbol_name, name_before}
 use Rattle.rv_image.specs.Text.{header_text, image_text}
 use Rattle.rv_image.specs.Reading.{header_at, first_fault, reading}
 use Rattle.rv_image.specs.Order.{body_tests, image_tests}

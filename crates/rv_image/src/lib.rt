@@ -7,16 +7,14 @@
 
 mod faults;
 mod header;
-mod images;
 pub mod laws;
-mod lists;
-mod names;
 mod reading;
 mod writing;
 
 pub use faults::ImageFault;
-pub use images::{Image, ImageParts, ImageVersion, Link, Symbol};
-pub use lists::{Comms, Links, Members, Segment, SymbolName, Symbols};
-pub use names::{is_symbol_name, name_before};
 pub use reading::read_image;
+pub use rv_image_types::{
+    Comms, Image, ImageParts, ImageVersion, Link, Links, Members, Segment, Symbol, SymbolName,
+    Symbols, is_symbol_name, name_before,
+};
 pub use writing::write_image;

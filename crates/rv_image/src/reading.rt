@@ -2,8 +2,8 @@
 
 ghost use Rattle.std.specs.Prelude.{◌≡◌, [], ◌∷◌, ◌++◌, ◌≤◌, None, length, Ok, Err, OnOk, IfOk, IsOk};
 ghost use Rattle.rv_image.specs.declared.faults.ImageFault.{ImageFault};
-ghost use Rattle.rv_image.specs.declared.images.ImageParts.{ImageParts};
-ghost use Rattle.rv_image.specs.Image.{IsImage};
+ghost use Rattle.rv_image_types.specs.declared.images.ImageParts.{ImageParts};
+ghost use Rattle.rv_image_types.specs.Image.{IsImage};
 ghost use Rattle.rv_image.specs.Text.{image_text};
 ghost use Rattle.rv_image.specs.Reading.{next_byte, next_bytes};
 ghost use Rattle.rv_image.specs.ReadingAnswers.{GivesBy, rest_of, AnswersBy, IsReadAs, Accepts};
@@ -13,9 +13,10 @@ ghost use Rattle.rv_image.specs.Reading.{named_at, symbol_at, next_symbol, body_
 
 use crate::faults::ImageFault;
 use crate::header::{HEADER_LENGTH, Header, header_fault, header_of, u32_at};
-use crate::images::{Image, ImageParts, Link, Symbol};
-use crate::lists::{Comms, Links, Members, Segment, SymbolName, Symbols};
-use crate::names::{is_symbol_name, name_before};
+use rv_image_types::{
+    Comms, Image, ImageParts, Link, Links, Members, Segment, Symbol, SymbolName, Symbols,
+    is_symbol_name, name_before,
+};
 use std::alloc::{AllocError, Global};
 
 // Below, `total` is the length of the whole input, which Short carries, and `bytes` what is left of it. What is handed

@@ -3,12 +3,11 @@
 ghost use Rattle.std.specs.Prelude.{◌≡◌, ◌≤◌, ◌++◌, ◌^◌, ◌<◌, ◌∷◌, [], length, codes, All, OnOk, IfOk, Ok};
 ghost use Rattle.std.specs.Int.{w16, w32, to_le_bytes};
 ghost use Rattle.std.specs.List.{flat_map};
-ghost use Rattle.rv_image.specs.Image.{IsImage};
+ghost use Rattle.rv_image_types.specs.Image.{IsImage};
 ghost use Rattle.rv_image.specs.Text.{comm_text, link_text, symbol_text, version_number, header_text, body_text, image_text};
 ghost use Rattle.rv_image.specs.Reading.{reading};
 
-use crate::images::{Image, ImageParts, ImageVersion, Link, Symbol};
-use crate::lists::Members;
+use rv_image_types::{Image, ImageParts, ImageVersion, Link, Members, Symbol};
 use std::alloc::{AllocError, Global};
 
 /// The number by which the header says the version.

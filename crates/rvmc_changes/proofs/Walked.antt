@@ -9,7 +9,7 @@ use Rattle.rv_hart.specs.State.{State}
 use Rattle.rv_hart.specs.Stepped.{stepped}
 use Rattle.rv_hart.specs.Stores.{store_range}
 use Rattle.rv_hart.specs.declared.stores.StoreRange.{StoreRange}
-use Rattle.rv_image.specs.declared.images.ImageParts.{ImageParts}
+use Rattle.rv_image_types.specs.declared.images.ImageParts.{ImageParts}
 use Rattle.rv_memory.specs.Memory.{Memory, bytes_at}
 use Rattle.cl_machine.specs.Cluster.{CaseOf, Cluster, IsRun, IsStep, loaded_cluster}
 use Rattle.cl_machine.specs.declared.steps.Step.{Step}

@@ -1,7 +1,7 @@
 -- Where a walk ends, and why there is none.
 use Rattle.std.specs.Prelude.{ℕ, ◌≡◌, ◌<◌, ◌||◌, nat_lt, Bool, true, false, max, List, length, Option}
 use Rattle.std.specs.Option.{unwrap_or}
-use Rattle.rv_image.specs.declared.images.ImageParts.{ImageParts}
+use Rattle.rv_image_types.specs.declared.images.ImageParts.{ImageParts}
 use Rattle.cl_machine.specs.declared.steps.Step.{Step}
 use Rattle.cl_replay.specs.InnerReplaying.{BreaksAt}
 use Rattle.rvmc_changes.specs.declared.walks.WalkFault.{WalkFault}

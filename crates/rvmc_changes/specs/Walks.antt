@@ -1,7 +1,7 @@
 -- A walk through a record: the start of a stretch, and what each of its steps changed.
 use Rattle.std.specs.Prelude.{ℕ, ◌≡◌, ◌≤◌, ◌<◌, ◌||◌, nat_lt, Bool, true, false, max, List, length, map, Option}
 use Rattle.std.specs.Option.{unwrap_or}
-use Rattle.rv_image.specs.declared.images.ImageParts.{ImageParts}
+use Rattle.rv_image_types.specs.declared.images.ImageParts.{ImageParts}
 use Rattle.cl_debug.specs.Places.{IsAt}
 use Rattle.cl_machine.specs.Cluster.{Cluster}
 use Rattle.cl_machine.specs.declared.steps.Step.{Step}

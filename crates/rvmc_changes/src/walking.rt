@@ -18,7 +18,7 @@ use crate::steps::Change;
 use crate::walks::{Walk, WalkFault};
 use cl_machine::Step;
 use cl_replay::{ClusterState, ReplayFault, StepFault, replay};
-use rv_image::Image;
+use rv_image_types::Image;
 use std::alloc::Global;
 
 /// Whether a walk would begin or end behind the last step.

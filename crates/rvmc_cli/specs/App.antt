@@ -2,7 +2,7 @@
 use Rattle.std.specs.Prelude.{List, [], ◌∷◌, Some, true, codes}
 use Rattle.clap.specs.Lexer.{usize_max}
 use Rattle.clap.specs.Words.{App, Rule, Text, new_app, new_rule, with_rule, with_subcommand}
-use Rattle.clap.specs.declared.builder.action.ArgAction.TheVariants.{SetTrue}
+use Rattle.clap.specs.declared.builder.action.ArgAction.TheVariants.{Append, SetTrue}
 
 -- `--name`
 abbrev pub flag : Text → Rule
@@ -11,6 +11,10 @@ flag name = record (new_rule name) { long = Some name; action = Some SetTrue }
 -- `--name TEXT`
 abbrev pub option : Text → Rule
 option name = record (new_rule name) { long = Some name; value_names = 1 }
+
+-- the same, given any number of times
+abbrev pub options : Text → Rule
+options name = record (option name) { action = Some Append }
 
 -- `TEXT..`: one text or more behind the command
 abbrev pub texts : Text → Rule

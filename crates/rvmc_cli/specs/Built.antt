@@ -6,7 +6,7 @@ use Rattle.clap.specs.declared.builder.command.Command.{Command}
 use Rattle.clap.specs.declared.builder.command.Command.TheViews.{out-Command}
 use Rattle.rvmc_cli.specs.declared.parts.Part.{Part}
 use Rattle.rvmc_cli.specs.declared.parts.Part.TheVariants as part
-use Rattle.rvmc_cli.specs.App.{flag, option, texts, with_rules}
+use Rattle.rvmc_cli.specs.App.{flag, option, options, texts, with_rules}
 use Rattle.rvmc_cli.specs.Commands.{CommandRow, app_of, commands, from_second, from_third, rvmc_app}
 
 -- the command of this name, of these; any other name stands for `other`
@@ -38,6 +38,7 @@ pub record StandsFor (rules : App) (command : Command) : Type 0 where
 abbrev pub rule_of_part : Part → Rule
 rule_of_part (part.Flag name help) = flag name.now
 rule_of_part (part.Option name value help) = option name.now
+rule_of_part (part.Options name value help) = options name.now
 rule_of_part (part.Texts name value help) = texts name.now
 
 -- a command with these rules more than the old one has

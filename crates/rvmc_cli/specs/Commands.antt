@@ -4,9 +4,10 @@ use Rattle.std.specs.Prelude.{option_and_then}
 use Rattle.std.specs.Option.{option_map_or, unwrap_or}
 use Rattle.std.specs.Str.{bytes_eq}
 use Rattle.clap.specs.Words.{App, Row, Rule, Text, all_of, first_of, new_app}
-use Rattle.rvmc_cli.specs.App.{flag, option, texts, top_app, with_commands, with_rules}
+use Rattle.rvmc_cli.specs.App.{flag, option, options, texts, top_app, with_commands, with_rules}
 use Rattle.rvmc_cli.specs.declared.places.Places.{Places}
 use Rattle.rvmc_cli.specs.Options.{apart, flag_in, list_option, number_option, optional_number}
+use Rattle.rvmc_cli.specs.Sources.{sizes_in}
 use Rattle.rvmc_words.specs.Debug.{debug_words_in}
 use Rattle.rvmc_starts.specs.Starts.{start_in}
 use Rattle.rvmc_starts.specs.declared.starts.Start.{Start}
@@ -242,14 +243,15 @@ draw_row =
           option_map (λ (places : Places). OfRecord (Draw places.from places.to)) (places_given rows);
     }
 
--- `page [--from N] [--to N]`
+-- `page [--from N] [--to N] [--text NAME=LEN ..]`
 abbrev pub page_row : CommandRow
 page_row =
     record {
       name = codes "page";
-      rules = place_rules;
+      rules = place_rules ++ options (codes "text") ∷ [];
       meaning = λ rows.
-          option_map (λ (places : Places). OfRecord (Page places.from places.to)) (places_given rows);
+          option_and_then (λ (places : Places). option_map (λ texts. OfRecord (Page places.from places.to texts))
+          (sizes_in rows)) (places_given rows);
     }
 
 -- `-` alone: the words come behind the record, a line each

@@ -4,6 +4,7 @@ pub mod Commands
 pub mod Built
 pub mod Meaning
 pub mod Parsing
+pub mod Sources
 pub mod Files
 pub mod Worked
 pub mod WorkedFiles

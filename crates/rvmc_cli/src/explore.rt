@@ -19,9 +19,9 @@ use std::alloc::{AllocError, Global};
 /// What help says below its options.
 const EXAMPLES: &str = "\
 What a program prints may depend on which rank runs first. `explore` runs the
-image under every schedule of its ranks, and lists every outcome: an end is a
-state from which no hart goes on. If ranks are stuck while others run on for
-ever, they are listed too, as `deadlock: ranks 1 2 while others run on`.
+image under every schedule of its ranks, and lists every outcome: an end, which
+is a state from which no hart goes on, or ranks that are stuck while others run
+on for ever, as `deadlock: ranks 1 2 while others run on`.
 
 The verdict is about this machine. A send copies its message and returns, and a
 message arrives at once. MPI allows more: a standard send may wait until it is
@@ -30,17 +30,19 @@ here. The harts of a rank take turns in the order that --plan lists, the same
 for each rank: numbers from 0 to 255 with a comma between them.
 
 For each end the text has what each rank printed, how each hart ended, and, if a
-hart waits for ever, the text of `rvmc why`. From the second end on, the first
-line says by whose message the end differs from the first:
+hart waits for ever, the text of `rvmc why`. From the second outcome on, the
+first line says by whose message it differs from the first, and where that was
+sent:
 
   $ rvmc explore --source < examples/quotient.s
-  end 1
+  outcome 1
   rank 0 output 2
   7
   ..
-  end 2: rank 0 at divide+0x58 got rank 2's message, in end 1 rank 1's
+  outcome 2: rank 0 at divide+0x58 got rank 2's message (sent at send+0x0),
+    in outcome 1 rank 1's (sent at send+0x0)
   ..
-  2 ends of 14 states: no other end
+  2 outcomes of 3 states: no other outcome
 
 The last line says whether the list is complete. `not all: 7 states are left`
 means that the search stopped after --states states. Between two calls that
@@ -48,14 +50,14 @@ other ranks may answer, a rank runs alone. If that takes more than --turns turns
 and states are left, the line says `not all: rank 0 takes more than 1000000 turns
 alone`. There is no budget.
 
---record writes the record of a run to end K instead, for `rvmc list`, `check`,
-`draw`, `page`, `debug`, `gdb` and `why`. If there is no such end, that is an
-error, as `rvmc: explore: NoEnd 3`, with status 1.
+--record writes the record of a run to outcome K instead, for `rvmc list`,
+`check`, `draw`, `page`, `debug`, `gdb` and `why`. If there is none, that is an error,
+as `rvmc: explore: NoOutcome 3`, with status 1.
 
 A search that is too large for one machine can be cut into parts. --split writes
 starts, one a line: at least N, if the schedules differ that often. --from lists
-the ends behind one start of the same image, on any machine. --join reads these
-texts, lists each end once, and says whether the list is complete:
+the outcomes behind one start of the same image, on any machine. --join reads
+these texts, lists each outcome once, and says whether the list is complete:
 
   rvmc explore --split 64 farm.image -o starts
   parallel 'rvmc explore --from {} farm.image -o part.{#}' <starts
@@ -70,7 +72,8 @@ the output goes to a file, which is in its place once it is whole.
 
 Status:
   0 the list is complete, every hart ended at each end, and each run can end
-  1 error in the source, the image, the plan, a start or a text, or no such end
+  1 error in the source, the image, the plan, a start or a text, or no such
+    outcome
   2 error in the command line
   3 a hart trapped at some end
   4 the list is not complete
@@ -85,7 +88,7 @@ Examples:
   rvmc explore --states 10000 farm.image
   rvmc explore --record 2 farm.image -o two.record
   rvmc explore --record 2 farm.image | rvmc why
-                                       what each hart waits for at end 2
+                                       what each hart waits for at outcome 2
   rvmc explore --plan 0,0,1 farm.image
                                        hart 0 takes two turns, then hart 1 one
   rvmc explore hi.s";
@@ -111,21 +114,21 @@ static PARTS: &[Part] = &[
     Part::Option(
         "record",
         "K",
-        "Write the record of end K instead of the text",
+        "Write the record of outcome K instead of the text",
     ),
     Part::Option(
         "split",
         "N",
-        "Write at least N starts instead of the ends, from 1 to 16777216",
+        "Write at least N starts instead, from 1 to 16777216",
     ),
     Part::Option(
         "from",
         "START",
-        "List the ends behind a start that --split wrote",
+        "List the outcomes behind a start that --split wrote",
     ),
     Part::Flag(
         "join",
-        "Read what --from printed for each start, and list all ends",
+        "Read what --from printed for each start, list all outcomes",
     ),
 ];
 

@@ -55,7 +55,7 @@ static TAKERS: [Taker; 13] = takers! {
     "report" false;
     "list" false "--from" "--to" "--rank";
     "draw" false "--from" "--to";
-    "page" false "--from" "--to";
+    "page" false "--from" "--to" "--text";
     "debug" false;
     "gdb" false "--rank";
     "why" false "--at";

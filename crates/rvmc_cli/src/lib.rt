@@ -22,6 +22,7 @@ mod places;
 mod report;
 mod run;
 mod runner;
+mod sources;
 mod table;
 mod values;
 mod why;

@@ -1,4 +1,4 @@
-//! `page [--from N] [--to N]`.
+//! `page [--from N] [--to N] [--text NAME=LEN ..]`.
 
 ghost use Rattle.std.specs.Prelude.{IfOk};
 ghost use Rattle.clap.specs.Walk.{rows_of};
@@ -7,8 +7,9 @@ ghost use Rattle.rvmc_cli.specs.Built.{StandsFor};
 ghost use Rattle.rvmc_cli.specs.Commands.{app_of, page_row};
 ghost use Rattle.rvmc_cli.specs.Parsing.{Finds};
 
-use crate::parts::Help;
+use crate::parts::{Help, Part};
 use crate::places::{placed, places_of};
+use crate::sources::sizes;
 use crate::wrong::Wrong;
 use clap::{ArgMatches, Command};
 use rvmc_line::{CommandLine, RecordCommand};
@@ -25,6 +26,11 @@ The right and left arrow keys go one step forwards and back; with shift they go
 to the next mark and the one before; home and end go to the first place and the
 last. A click on a mark goes there, and so does #PLACE after the file's name.
 Step N leads from place N to place N + 1.
+
+--text shows the lines of a source beside the picture, with each rank at its
+line. The bytes of the sources follow the record, on the same input and in the
+order of the options. NAME is what the program's symbols call the source, with
+no `=` in it. `rvmc-mpi page` does this for you.
 
 A page has at most 200,000 steps; more are an error, as
 `rvmc: page: TooMany 200001`: make one of a part, by --from and --to. Other
@@ -43,7 +49,15 @@ Status:
 Examples:
   rvmc run --record farm.image -o farm.record
   rvmc page farm.record -o farm.html
-  rvmc page --from 100 --to 200 farm.record -o part.html";
+  rvmc page --from 100 --to 200 farm.record -o part.html
+  cat farm.record farm.c | rvmc page --text farm.c=$(wc -c <farm.c) -o farm.html";
+
+/// Its parts beside the places.
+static PARTS: &[Part] = &[Part::Options(
+    "text",
+    "NAME=LEN",
+    "Show a source: NAME, whose LEN bytes are behind the record; give it once per source",
+)];
 
 /// The command as clap builds it.
 pub fn command<'a>(alloc: Global) -> Result<Command<'a>, AllocError>
@@ -57,17 +71,18 @@ pub fn command<'a>(alloc: Global) -> Result<Command<'a>, AllocError>
             about: "Make a web page to step through a record",
             examples: EXAMPLES,
         },
-        &[],
+        PARTS,
     )
 }
 
 /// What it asks for, of what clap found.
-pub fn line<'a>(_alloc: Global, matches: &ArgMatches<'a>) -> Result<CommandLine, Wrong<'a>>
+pub fn line<'a>(alloc: Global, matches: &ArgMatches<'a>) -> Result<CommandLine, Wrong<'a>>
     ensures { Finds (page_row.meaning (rows_of (found_of matches.now))) result }
 {
     let places = places_of(matches)?;
     Ok(CommandLine::OfRecord(RecordCommand::Page {
         from: places.from,
         to: places.to,
+        texts: sizes(alloc, matches)?,
     }))
 }

@@ -2,7 +2,7 @@
 
 ghost use Rattle.std.specs.Prelude.{◌≡◌, ◌∷◌, IfOk, [], false, map};
 ghost use Rattle.clap.specs.Words.{new_app, rule_of};
-ghost use Rattle.rvmc_cli.specs.App.{flag, option, texts, with_rules};
+ghost use Rattle.rvmc_cli.specs.App.{flag, option, options, texts, with_rules};
 ghost use Rattle.rvmc_cli.specs.Built.{AddsRules, StandsFor, rule_of_part};
 
 use clap::{Arg, ArgAction, Command};
@@ -14,6 +14,8 @@ pub enum Part {
     Flag(&'static str, &'static str),
     /// `--name VALUE`.
     Option(&'static str, &'static str, &'static str),
+    /// `--name VALUE`, any number of times.
+    Options(&'static str, &'static str, &'static str),
     /// `VALUE..`, one or more.
     Texts(&'static str, &'static str, &'static str),
 }
@@ -40,6 +42,14 @@ fn option<'a>(alloc: Global, name: &'a str, value: &'a str, help: &'a str) -> Ar
         .help(help)
 }
 
+/// `--name VALUE`, any number of times.
+fn options<'a>(alloc: Global, name: &'a str, value: &'a str, help: &'a str) -> Arg<'a>
+    ensures rule { rule_of result ≡ options name.entry.now }
+    ensures local { result.global ≡ false }
+{
+    option(alloc, name, value, help).action(ArgAction::Append)
+}
+
 /// `VALUE..`, one or more.
 fn texts<'a>(alloc: Global, name: &'a str, value: &'a str, help: &'a str) -> Arg<'a>
     ensures rule { rule_of result ≡ texts name.entry.now }
@@ -60,6 +70,7 @@ fn argument<'a>(alloc: Global, part: &Part) -> Arg<'a>
     match part {
         Part::Flag(name, help) => flag(alloc, name, help),
         Part::Option(name, value, help) => option(alloc, name, value, help),
+        Part::Options(name, value, help) => options(alloc, name, value, help),
         Part::Texts(name, value, help) => texts(alloc, name, value, help),
     }
 }

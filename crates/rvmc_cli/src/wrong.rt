@@ -32,6 +32,8 @@ pub enum Wrong<'a> {
         option: &'static str,
         text: &'a str,
     },
+    /// A text of `--text` is no source.
+    Source(&'a str),
     /// Two flags or options were given that don't go together.
     Both {
         flag: &'static str,
@@ -73,6 +75,11 @@ impl fmt::Display for Wrong<'_> {
             Wrong::Start { option, text } => write!(
                 f,
                 "'--{option}' takes a start, as 'rvmc explore --split' writes them, not '{text}'"
+            ),
+            Wrong::Source(text) => write!(
+                f,
+                "'--text' takes NAME=LEN, as farm.c=120: a name without =, and how many bytes it has, up to 67108864, \
+                 not '{text}'"
             ),
             Wrong::Both { flag, other } => write!(
                 f,

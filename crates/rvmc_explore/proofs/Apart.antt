@@ -1,9 +1,9 @@
 -- A search that was split: what the starts tell together.
-use Rattle.std.specs.Prelude.{ℕ, ◌+◌, ◌<◌, ◌≡◌, List, [], ◌∷◌, length, slice_get, Some, Bool, true, false}
+use Rattle.std.specs.Prelude.{ℕ, ◌+◌, ◌<◌, ◌≡◌, List, [], ◌∷◌, length, slice_get, Some}
 use Rattle.std.proofs.Common.{refl, sym, ap, ◌∙◌, subst, arith, inl, inr}
 use Rattle.std.proofs.lemmas.Bool.{cases_lt}
 use Rattle.std.proofs.lemmas.Option.{slice_get_within}
-use Rattle.rv_image.specs.declared.images.ImageParts.{ImageParts}
+use Rattle.rv_image_types.specs.declared.images.ImageParts.{ImageParts}
 use Rattle.cl_machine.specs.Cluster.{Cluster, IsRun, loaded_cluster}
 use Rattle.cl_machine.specs.declared.steps.Step.{Step}
 use Rattle.cl_order_laws.specs.Alike.{hub_of}
@@ -17,7 +17,8 @@ use Rattle.cl_order_laws.proofs.Orders.{one_order_law}
 use Rattle.cl_order_laws.proofs.Steps.{step_leads}
 use Rattle.cl_order_laws.proofs.Walks.{covers_posts}
 use Rattle.cl_moves.specs.Standing.{by_order, first_node, node_of}
-use Rattle.cl_explore.specs.Covering.{HasRoom, IsClosedAt, Reaches}
+use Rattle.cl_explore.specs.Covering.{IsClosedAt, Reaches}
+use Rattle.cl_explore.specs.How.{HasRoom, How, at_once, by_contest, plainly}
 use Rattle.cl_explore.specs.Orders.{IsOrderedWay}
 use Rattle.cl_explore.proofs.Covers.{reaches_on}
 use Rattle.cl_explore.proofs.Finds.{ends_by}
@@ -42,10 +43,12 @@ one_place image order other start one two a b same first second =
     (((again.way).had) ∙ (ap (λ es. had_after none_had es) its.0 ∙ sym ((first.way).had)))
 
 -- as many posts were made where a node covers
-room_covered : (sure : Bool) (plans : Plans) (node here : Node) → IsCovered plans (node ∷ []) here
-    → HasRoom sure (hub_of node.cluster.journal) → HasRoom sure (hub_of here.cluster.journal)
-room_covered true plans node here cov room = let same = covers_posts plans node here cov in omega (arith, same, room)
-room_covered false plans node here cov room = tt
+room_covered : (how : How) (plans : Plans) (node here : Node) → IsCovered plans (node ∷ []) here
+    → HasRoom how (hub_of node.cluster.journal) → HasRoom how (hub_of here.cluster.journal)
+room_covered at_once plans node here cov room =
+    (let same = covers_posts plans node here cov in omega (arith, same, room))
+room_covered plainly plans node here cov room = tt
+room_covered (by_contest contest) plans node here cov room = tt
 
 -- ---- the law
 
@@ -84,26 +87,27 @@ module _ (image : ImageParts) (order : List ℕ) (states turns least : ℕ) (tex
       let listed = (its.tells).listed in
       let explored = (listed.behind).explored in
       let first : (listed.behind).start ≡ node = begins_at k start at steps node way in
-      let reach : Reaches explored.sure order ns node =
-      subst (λ (n : Node). Reaches explored.sure order ns n) first
-      (subst (λ (o : List ℕ). Reaches explored.sure o ns (listed.behind).start) same explored.start_is) in
+      let reach : Reaches explored.how order ns node =
+      subst (λ (n : Node). Reaches explored.how order ns n) first
+      (subst (λ (o : List ℕ). Reaches explored.how o ns (listed.behind).start) same explored.start_is) in
       let posts = ap (λ (n : Node). hub_of n.cluster.journal) first in
-      let room : HasRoom explored.sure (hub_of node.cluster.journal) =
-      subst (HasRoom explored.sure) posts explored.room in
+      let room : HasRoom explored.how (hub_of node.cluster.journal) =
+      subst (HasRoom explored.how) posts explored.room in
       let visited : (i : ℕ) (n : Node) → slice_get ns i ≡ Some n → i + (listed.found).left < length ns =
       λ i n there. omega (arith, slice_get_within ns i n there, its.whole) in
-      ends_by explored.sure order ns here (reaches_on explored.sure order ns here node cov reach)
-      (room_covered explored.sure plans node here cov room)
+      let none = (listed.behind).uncontested in
+      ends_by explored.how order ns here none (reaches_on explored.how order ns here node none cov reach)
+      (room_covered explored.how plans node here cov room)
       (λ i r n there.
-      subst (λ (o : List ℕ). IsClosedAt explored.sure o ns n r) same
+      subst (λ (o : List ℕ). IsClosedAt explored.how o ns n r) same
       (explored.closed i r n (visited i n there, there)))
       (λ i n there. explored.few i n (visited i n there, there)) more end run follow is
 
   -- the moves of the nodes that aren't left were made, each where others lead
   closed_at : (i r : ℕ) (node : Node) → i + (split.found).left < length nodes → slice_get nodes i ≡ Some node
-      → IsClosedAt false order nodes node r
+      → IsClosedAt plainly order nodes node r
   closed_at i r node low there =
-      subst (λ sure. IsClosedAt sure order nodes node r) split.plain ((split.explored).closed i r node (low, there))
+      subst (λ how. IsClosedAt how order nodes node r) split.plain ((split.explored).closed i r node (low, there))
 
   module _ (end : Cluster) (is : IsEnd plans end) where
     -- an end among the nodes of a start is told
@@ -172,5 +176,5 @@ module _ (image : ImageParts) (order : List ℕ) (states turns least : ℕ) (tex
 pub split_law : SplitLaw
 split_law image order states turns least text split told steps end run follow is =
     told_from image order states turns least text split told end is steps (loaded_cluster image) none_had
-    (subst (λ sure. Reaches sure order (split.explored).nodes (first_node image)) split.plain (split.explored).start_is) run
+    (subst (λ how. Reaches how order (split.explored).nodes (first_node image)) split.plain (split.explored).start_is) run
     follow

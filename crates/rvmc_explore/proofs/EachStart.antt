@@ -5,7 +5,7 @@ use Rattle.std.proofs.lemmas.Bool.{cases_eq}
 use Rattle.std.proofs.lemmas.List.{append_assoc, append-nil, length-append, length-map}
 use Rattle.std.proofs.lemmas.Option.{get_or_from_slice_get, same_Some, slice_get_within}
 use Rattle.rv_image.specs.Text.{image_text}
-use Rattle.rv_image.specs.declared.images.ImageParts.{ImageParts}
+use Rattle.rv_image_types.specs.declared.images.ImageParts.{ImageParts}
 use Rattle.cl_order_laws.specs.Closed.{Node}
 use Rattle.cl_explore.specs.Covering.{AreNodes}
 use Rattle.cl_explore.proofs.Lists.{at_inside, at_last, stays_at, was_or_new}

@@ -1,5 +1,5 @@
 -- What the findings of a search say of runs of any length.
-use Rattle.std.proofs.Common.{ℕ, zero, suc, ◌≡◌, ◌+◌, ◌<◌, ◌≤◌, ◌==◌, ◌⊎◌, ◌∙◌, List, [], ◌∷◌, length, map, Bool, true, false, Some, slice_get, inl, inr, refl, sym, subst, ap, arith, get_or}
+use Rattle.std.proofs.Common.{ℕ, zero, suc, ◌≡◌, ◌<◌, ◌==◌, ◌⊎◌, ◌∙◌, List, [], ◌∷◌, length, map, Bool, true, false, IsTrue, Some, slice_get, inl, inr, refl, sym, subst, ap, arith, get_or}
 use Rattle.std.specs.Prelude.{◌%◌, ◌&&◌, ◌||◌, if◌then◌else◌, not}
 use Rattle.std.specs.List.{list_any}
 use Rattle.std.proofs.lemmas.Bool.{and_from, eq-eqb, eqb-true}
@@ -7,32 +7,35 @@ use Rattle.std.proofs.lemmas.List.Elements.{All-get_or}
 use Rattle.std.proofs.lemmas.List.Folds.{list_any_at}
 use Rattle.std.proofs.Math.Nat.{mod-lt}
 use Rattle.std.proofs.lemmas.Option.{get_or_from_slice_get, same_Some, slice_get-get_or, slice_get_within}
-use Rattle.rv_image.specs.Image.{IsImage}
-use Rattle.rv_image.specs.declared.images.ImageParts.{ImageParts}
-use Rattle.cl_state.specs.Rank.{Rank}
-use Rattle.cl_machine.specs.Cluster.{Cluster, IsRun, loaded_cluster}
+use Rattle.rv_image_types.specs.Image.{IsImage}
+use Rattle.rv_image_types.specs.declared.images.ImageParts.{ImageParts}
+use Rattle.cl_machine.specs.Cluster.{Cluster, IsRun}
 use Rattle.cl_machine.specs.declared.steps.Step.{Step}
-use Rattle.mp_alike_laws.specs.Renaming.{no_renaming}
-use Rattle.cl_order_laws.specs.Alike.{Leads, hub_of}
-use Rattle.cl_order_laws.specs.Closed.{FollowPlans, IsEnd, Node, Turns, had_after, one_more}
+use Rattle.cl_explore.specs.Below.{no_renaming}
+use Rattle.cl_order_laws.specs.Alike.{hub_of}
+use Rattle.cl_order_laws.specs.Closed.{FollowPlans, IsEnd, Node, Plans, Turns, one_more}
 use Rattle.cl_order_laws.specs.Sure.{GoesOn}
 use Rattle.cl_order_laws.proofs.Likeness.{itself}
 use Rattle.cl_order_laws.proofs.Walks.{walk_of}
 use Rattle.cl_outcome_laws.specs.Companies.{IsCompany}
-use Rattle.cl_outcome_laws.specs.Graphs.{Edges, HasPosts, HaveHarts, IsGraph, IsTrap, HasRoom as HasRoomIn, Reaches as ReachesIn}
+use Rattle.cl_outcome_laws.specs.Graphs.{AreAlikeNodes, Edges, HasPosts, HaveHarts, IsGraph, IsTrap, HasRoom as HasRoomIn, Reaches as ReachesIn}
 use Rattle.cl_outcome_laws.specs.Laws.{HasCompany}
-use Rattle.cl_outcome_laws.specs.Unending.{IsAfter, MayEnd}
+use Rattle.cl_outcome_laws.specs.Unending.{IsAfter, MayEnd, NeverEnds}
 use Rattle.cl_outcome_laws.proofs.Companies.{company_law}
 use Rattle.cl_outcome_laws.proofs.Unending.{unending_law}
-use Rattle.cl_deadlock.specs.Why.{AreBelow}
+use Rattle.cl_explore.specs.Below.{AreBelow}
 use Rattle.cl_deadlock_laws.specs.Stuck.{IsReachable}
 use Rattle.cl_deadlock_laws.proofs.Reached.{comes_reached, same_harts}
-use Rattle.cl_record.specs.Plans.{IsOrder, in_slot}
+use Rattle.cl_explore.specs.Below.{IsOrder, in_slot}
 use Rattle.cl_moves.specs.Posts.{most_posts}
 use Rattle.cl_moves.specs.Standing.{IsWay, by_order, first_node, node_of}
-use Rattle.cl_explore.specs.Covering.{AreJoined, HasLead, HasRoom, IsClosedAt, Reaches}
+use Rattle.cl_explore.specs.Below.{Contest}
+use Rattle.cl_explore.specs.Below.{IsContestGraph}
+use Rattle.cl_explore.proofs.Below.{contest_law}
+use Rattle.cl_explore.proofs.Below.{never_ends_law}
+use Rattle.cl_explore.specs.How.{HasRoom, How, IsFitFor, MayBegin, at_once, by_contest, plainly}
+use Rattle.cl_explore.specs.Covering.{AreJoined, HasLead, IsClosedAt, IsClosedFrom, Reaches}
 use Rattle.cl_explore.specs.Ends.{ExploredFrom, Findings, IsVisitedNode}
-use Rattle.cl_explore.specs.declared.companies.Company.{Company}
 use Rattle.cl_explore.specs.declared.leads.Lead.{Lead}
 use Rattle.cl_explore.proofs.Keeping.{node_found}
 use Rattle.cl_explore.proofs.Lists.{at_inside}
@@ -75,18 +78,132 @@ lead_edge leads i j led =
 
 -- ---- what was found, as a graph
 
-as_reaches : (sure : Bool) (order : List ℕ) (nodes : List Node) (here : Node) → Reaches sure order nodes here
+-- with calls for what is there made at once, or without
+abbrev how_by : Bool → How
+how_by true = at_once
+how_by false = plainly
+
+as_reaches : (sure : Bool) (order : List ℕ) (nodes : List Node) (here : Node) → Reaches (how_by sure) order nodes here
     → ReachesIn sure (by_order order) most_posts nodes here
 as_reaches true order nodes here reaches = reaches
 as_reaches false order nodes here reaches = reaches
 
-as_room : (sure : Bool) (cluster : Cluster) → HasRoom sure (hub_of cluster.journal) → HasRoomIn sure most_posts cluster
+as_room : (sure : Bool) (cluster : Cluster) → HasRoom (how_by sure) (hub_of cluster.journal)
+    → HasRoomIn sure most_posts cluster
 as_room true cluster room = room
 as_room false cluster room = tt
 
-as_posts : (sure : Bool) (cluster : Cluster) → HasRoom sure (hub_of cluster.journal) → HasPosts sure most_posts cluster
+as_posts : (sure : Bool) (cluster : Cluster) → HasRoom (how_by sure) (hub_of cluster.journal)
+    → HasPosts sure most_posts cluster
 as_posts true cluster room = omega (arith, room)
 as_posts false cluster room = tt
+
+-- what is known of a search that is whole, however turns are taken at once
+record Whole (how : How) (image : ImageParts) (order : List ℕ) (start : Node) (nodes : List Node) (leads : List Lead)
+    : Type 0 where
+  start_is : Reaches how order nodes start
+  begins : MayBegin how image order start
+  room : HasRoom how (hub_of start.cluster.journal)
+  follows : (i r : ℕ) (node : Node) → slice_get nodes i ≡ Some node → IsClosedFrom how order leads i nodes node r
+  closed : (i r : ℕ) (node : Node) → slice_get nodes i ≡ Some node → IsClosedAt how order nodes node r
+  few : (i : ℕ) (node : Node) → slice_get nodes i ≡ Some node → HasRoom how (hub_of node.cluster.journal)
+  fit : (i : ℕ) (node : Node) → slice_get nodes i ≡ Some node → IsFitFor how node.cluster
+  joined : (i j : ℕ) (from to : Node) → IsTrue (edges_of leads i j) → slice_get nodes i ≡ Some from
+      → slice_get nodes j ≡ Some to
+      → (there : Node) × IsAfter (by_order order) from there × AreAlikeNodes (by_order order) there to
+  reached : (i : ℕ) (node : Node) → slice_get nodes i ≡ Some node
+      → (steps : List Step) × IsWay (by_order order) (first_node image) steps node
+
+module _ (image : ImageParts) (order : List ℕ) (start : Node) (nodes : List Node) (leads : List Lead) where
+  abbrev plans : Plans
+  plans = by_order order
+
+  abbrev them : Edges
+  them = edges_of leads
+
+  graph_by : (sure : Bool) → Whole (how_by sure) image order start nodes leads → IsGraph sure plans most_posts nodes them
+  graph_by sure whole = record {
+    closed = λ i r node rank at has. elim (whole.follows i r node at rank has) [
+      | inl done ↦ inl done
+      | inr moves ↦ inr (λ e new is hart turn.
+          let f = moves e new is hart turn in
+          record {
+            j = f.number;
+            to = f.next;
+            edge = lead_edge leads i f.number f.led;
+            there = f.there;
+            reaches = as_reaches sure order (f.next ∷ []) (node_of new (one_more node.had r)) f.reaches;
+          })
+    ];
+    room = λ i node at. as_room sure node.cluster (whole.few i node at);
+    leads = whole.joined;
+    itself = λ i node at.
+        let way = whole.reached i node at in (no_renaming, itself node.cluster (image, way.0, (way.1).run));
+  }
+
+  contest_graph : (contest : Contest) → Whole (by_contest contest) image order start nodes leads
+      → IsContestGraph contest plans nodes them
+  contest_graph contest whole = record {
+    closed = λ i r node rank at has. elim (whole.follows i r node at rank has) [
+      | inl done ↦ inl done
+      | inr moves ↦ inr (λ e new is hart turn.
+          let f = moves e new is hart turn in
+          record {
+            j = f.number;
+            to = f.next;
+            edge = lead_edge leads i f.number f.led;
+            there = f.there;
+            settles = f.reaches;
+          })
+    ];
+    fit = whole.fit;
+    leads = whole.joined;
+    well = λ i node at. let way = whole.reached i node at in (image, way.0, (way.1).run);
+  }
+
+  -- ---- what follows of it
+
+  never_by : (how : How) → Whole how image order start nodes leads → (inside : ℕ → Bool) → IsTrap plans nodes them inside
+      → (i : ℕ) (node : Node) → IsTrue (inside i) → slice_get nodes i ≡ Some node → NeverEnds plans node
+  never_by at_once whole inside trap =
+      unending_law.never true plans most_posts nodes them inside (graph_by true whole) trap
+  never_by plainly whole inside trap =
+      unending_law.never false plans most_posts nodes them inside (graph_by false whole) trap
+  never_by (by_contest contest) whole inside trap = λ i node is at.
+      let way = whole.reached i node at in
+      let first = subst (λ (n : Node). IsWay plans n way.0 node) (sym (whole.begins).0) way.1 in
+      never_ends_law.never contest plans nodes them inside start (whole.begins).1 whole.start_is
+      (contest_graph contest whole) trap i node is at way.0 first.run first.follow
+
+  path_by : (how : How) → Whole how image order start nodes leads → (i j : ℕ) (from to : Node) → IsTrue (them i j)
+      → slice_get nodes i ≡ Some from → slice_get nodes j ≡ Some to → MayEnd plans to → MayEnd plans from
+  path_by at_once whole = unending_law.path true plans most_posts nodes them (graph_by true whole)
+  path_by plainly whole = unending_law.path false plans most_posts nodes them (graph_by false whole)
+  path_by (by_contest contest) whole = never_ends_law.path contest plans nodes them (contest_graph contest whole)
+
+  may_by : (how : How) → Whole how image order start nodes leads → HaveHarts plans start.cluster
+      → ((i : ℕ) (node : Node) → slice_get nodes i ≡ Some node → MayEnd plans node) → AllMayEnd order start
+  may_by at_once whole harts =
+      unending_law.may true plans most_posts nodes them start (graph_by true whole)
+      (as_reaches true order nodes start whole.start_is) (as_posts true start.cluster whole.room) harts
+  may_by plainly whole harts =
+      unending_law.may false plans most_posts nodes them start (graph_by false whole)
+      (as_reaches false order nodes start whole.start_is) (as_posts false start.cluster whole.room) harts
+  may_by (by_contest contest) whole harts =
+      never_ends_law.may contest plans nodes them start (whole.begins).1 whole.start_is (contest_graph contest whole)
+
+  company_by : (how : How) → Whole how image order start nodes leads → (steps : List Step) (end : Cluster)
+      → IsRun start.cluster steps end → FollowPlans plans start.had steps → (ranks : List ℕ) → IsCompany ranks end
+      → HasCompany ranks nodes
+  company_by at_once whole =
+      company_law.at_once plans most_posts nodes start whole.start_is (let room = whole.room in omega (arith, room))
+      (record { each = λ i r node rank at has. whole.closed i r node at rank has; few = whole.few })
+  company_by plainly whole =
+      company_law.covered plans nodes start whole.start_is
+      (record { each = λ i r node rank at has. whole.closed i r node at rank has })
+  company_by (by_contest contest) whole =
+      contest_law.companies contest plans nodes start (whole.begins).1 whole.start_is
+      (record { closed = λ i r node rank at has. whole.closed i r node at rank has; fit = whole.fit })
 
 -- whether no mark of the node of this number is left out
 abbrev marked : List Bool → ℕ → Bool
@@ -116,22 +233,16 @@ module _ (image : ImageParts) (order : List ℕ) (start : Node) (found : Finding
         (walk_of (by_order order) steps from.cluster there.cluster from.had way.run way.follow),
   )
 
-  graph : IsGraph explored.sure (by_order order) most_posts nodes edges
-  graph = record {
-    closed = λ i r node rank at has. elim (explored.follows i r node (visited i node at) rank has) [
-      | inl done ↦ inl done
-      | inr moves ↦ inr (λ e new is hart leads.
-          let f = moves e new is hart leads in
-          record {
-            j = f.number;
-            to = f.next;
-            edge = lead_edge found.leads i f.number f.led;
-            there = f.there;
-            reaches = as_reaches explored.sure order (f.next ∷ []) (node_of new (one_more node.had r)) f.reaches;
-          })
-    ];
-    room = λ i node at. as_room explored.sure node.cluster (explored.few i node (visited i node at));
-    leads = λ i j from to edge here there.
+  whole : Whole explored.how image order start nodes found.leads
+  whole = record {
+    start_is = explored.start_is;
+    begins = explored.begins;
+    room = explored.room;
+    follows = λ i r node at. explored.follows i r node (visited i node at);
+    closed = λ i r node at. explored.closed i r node (visited i node at);
+    few = λ i node at. explored.few i node (visited i node at);
+    fit = λ i node at. explored.fit i node (visited i node at);
+    joined = λ i j from to edge here there.
         let led = edge_lead found.leads i j edge in
         let v = explored.leads led.0 led.1 led.2 in
         let first : v.0 ≡ from =
@@ -140,8 +251,7 @@ module _ (image : ImageParts) (order : List ℕ) (start : Node) (found : Finding
         same_Some v.1 to (sym v.3 ∙ (ap (slice_get nodes) led.4 ∙ there)) in
         let joined = subst (λ n. AreJoined order n to) first (subst (λ n. AreJoined order v.0 n) second v.4) in
         (joined.there, after_way from joined.there joined.steps joined.way, joined.alike);
-    itself = λ i node at.
-        let way = reached i node at in (no_renaming, itself node.cluster (image, way.0, (way.1).run));
+    reached = reached;
   }
 
   -- ---- nodes that aren't marked lead to no end
@@ -194,7 +304,7 @@ module _ (image : ImageParts) (order : List ℕ) (start : Node) (found : Finding
           steps = way.0;
           there = node.0;
           way = way.1;
-          never = unending_law.never explored.sure (by_order order) most_posts nodes edges inside graph trap i node.0 is node.1;
+          never = never_by image order start nodes found.leads explored.how whole inside trap i node.0 is node.1;
         }
 
     -- ---- where each is marked
@@ -209,41 +319,21 @@ module _ (image : ImageParts) (order : List ℕ) (start : Node) (found : Finding
         let led = goes.1 in
         let v = explored.leads led.0 led.1 led.2 in
         let there : slice_get nodes goes.0 ≡ Some v.1 = ap (slice_get nodes) (sym led.4) ∙ v.3 in
-        unending_law.path explored.sure (by_order order) most_posts nodes edges graph i goes.0 node v.1
+        path_by image order start nodes found.leads explored.how whole i goes.0 node v.1
         (lead_edge found.leads i goes.0 led) at there (end_may goes.0 v.1 n there goes.2)
 
     pub all_may_end : AreSound found.leads found.ends marks
         → ((i : ℕ) → i < length marks → slice_get marks i ≡ Some true) → HaveHarts (by_order order) start.cluster
         → AllMayEnd order start
-    all_may_end sound each harts = λ steps end run follow.
-        unending_law.may explored.sure (by_order order) most_posts nodes edges start graph
-        (as_reaches explored.sure order nodes start explored.start_is)
-        (as_posts explored.sure start.cluster explored.room) harts
+    all_may_end sound each harts =
+        may_by image order start nodes found.leads explored.how whole harts
         (λ i node at. let goes = sound i (each i (is_node i node at)) in end_may i node goes.0 at goes.1)
-        steps end run follow
 
   -- ---- ranks that are stuck
 
-  company_at : (sure : Bool) → Reaches sure order nodes start → HasRoom sure (hub_of start.cluster.journal)
-      → ((i r : ℕ) (node : Node) → IsVisitedNode nodes found.left i node → IsClosedAt sure order nodes node r)
-      → ((i : ℕ) (node : Node) → IsVisitedNode nodes found.left i node → HasRoom sure (hub_of node.cluster.journal))
-      → (steps : List Step) (end : Cluster) → IsRun start.cluster steps end
-      → FollowPlans (by_order order) start.had steps → (ranks : List ℕ) → IsCompany ranks end → HasCompany ranks nodes
-  company_at true reaches room closed few = λ steps end run follow ranks company.
-      company_law.at_once (by_order order) most_posts nodes start reaches (omega (arith, room))
-      (record {
-        each = λ i r node rank at has. closed i r node (visited i node at) rank has;
-        few = λ i node at. few i node (visited i node at);
-      }) steps end run follow ranks company
-  company_at false reaches room closed few = λ steps end run follow ranks company.
-      company_law.covered (by_order order) nodes start reaches
-      (record { each = λ i r node rank at has. closed i r node (visited i node at) rank has }) steps end run follow ranks
-      company
-
   pub never_stuck : IsImage image → length found.companies ≡ 0 → NeverStuck image order start
   never_stuck limits none = λ steps end run follow ranks below company.
-      let at = company_at explored.sure explored.start_is explored.room explored.closed explored.few steps end run follow
-      ranks company in
+      let at = company_by image order start nodes found.leads explored.how whole steps end run follow ranks company in
       let way = reached at.0 at.1 at.2 in
       let count = (comes_reached image way.0 at.1.cluster (way.1).run).count in
       elim (explored.judged limits at.0 at.1 (visited at.0 at.1 at.2)) [

@@ -1,18 +1,17 @@
 -- Outcomes, one behind another.
-use Rattle.std.specs.Prelude.{ℕ, suc, ◌+◌, ◌<◌, ◌≤◌, ◌≡◌, ◌⊎◌, List, [], ◌∷◌, ◌++◌, Bool, true, false, drop, length, map, slice_get, Option, None, Some}
+use Rattle.std.specs.Prelude.{ℕ, suc, ◌+◌, ◌<◌, ◌≤◌, ◌≡◌, ◌⊎◌, List, [], ◌∷◌, ◌++◌, Bool, drop, length, slice_get, Some}
 use Rattle.std.proofs.Common.{refl, sym, ap, ◌∙◌, subst, arith, drop-cons, inl, inr}
 use Rattle.std.proofs.lemmas.Bool.{cases_eq}
 use Rattle.std.proofs.lemmas.List.{drop_all, length-append}
 use Rattle.std.proofs.lemmas.Option.{get_or_from_slice_get, same_Some, slice_get_within}
-use Rattle.rv_image.specs.Image.{IsImage}
-use Rattle.rv_image.specs.declared.images.ImageParts.{ImageParts}
+use Rattle.rv_image_types.specs.Image.{IsImage}
+use Rattle.rv_image_types.specs.declared.images.ImageParts.{ImageParts}
 use Rattle.cl_order_laws.specs.Closed.{Node}
 use Rattle.cl_explore.proofs.Lists.{at_last, stays_at, was_or_new}
 use Rattle.cl_explore.specs.Ends.{ExploredFrom, Findings}
 use Rattle.cl_explore.specs.declared.companies.Company.{Company}
-use Rattle.cl_explore.specs.declared.kept.KeptNode.{KeptNode}
 use Rattle.rvmc_starts.specs.declared.parts.EndText.{EndText}
-use Rattle.rvmc_explore.specs.Outcomes.{AddsNew, AreApart, AreTold, AreToldBeside, AreToldEnds, HasBody, IsEndBody, IsEndOutcome, IsOutcome, IsStuckBody, IsStuckOutcome, TellsEndAt, TellsStuck}
+use Rattle.rvmc_explore.specs.Outcomes.{AddsNew, AreApart, AreTold, AreToldBeside, AreToldEnds, HasBody, IsEndBody, IsEndOutcome, IsOutcome, IsStuckBody, TellsEndAt, TellsStuck}
 use Rattle.rvmc_explore.specs.Searched.{AreSound, GoesTo, IsWithin}
 use Rattle.rvmc_explore.specs.Starting.{AreEndsTold, IsEndTold}
 use Rattle.rvmc_explore.specs.Telling.{AddsOutcome, AddsOutcomes}

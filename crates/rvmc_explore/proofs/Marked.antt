@@ -7,8 +7,6 @@ use Rattle.std.proofs.lemmas.Bool.{cases_eq}
 use Rattle.std.proofs.lemmas.Option.{same_Some, slice_get-get_or, slice_get_within}
 use Rattle.cl_machine.proofs.Lists.{get-set_other, get-set_same}
 use Rattle.cl_explore.specs.declared.leads.Lead.{Lead}
-use Rattle.cl_explore.specs.Covering.{HasLead}
-use Rattle.cl_order_laws.proofs.Each.{set_length}
 use Rattle.rvmc_explore.specs.Endless.{AreComplete}
 use Rattle.rvmc_explore.specs.Marks.{AreMarkedFrom, HaveStayed, IsMarkedBefore, IsMarkedIfThere, unmarked}
 use Rattle.rvmc_explore.specs.Searched.{AreSound, GoesTo}

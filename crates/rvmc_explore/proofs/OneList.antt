@@ -10,24 +10,23 @@ use Rattle.std.proofs.lemmas.Option.{get_or_from_slice_get, same_Some, slice_get
 use Rattle.rv_hart.specs.State.{State}
 use Rattle.rv_hart.specs.declared.state.Mode.{Mode}
 use Rattle.rv_hart.specs.declared.state.Mode.TheVariants.{Running, Waiting, Ended, Trapped}
-use Rattle.rv_image.specs.Image.{IsImage}
-use Rattle.rv_image.specs.declared.images.ImageParts.{ImageParts}
-use Rattle.mp_alike_laws.specs.Renaming.{Renaming}
+use Rattle.rv_image_types.specs.Image.{IsImage}
+use Rattle.rv_image_types.specs.declared.images.ImageParts.{ImageParts}
+use Rattle.cl_explore.specs.Below.{Renaming}
 use Rattle.cl_state.specs.Rank.{Rank}
 use Rattle.cl_state.specs.Room.{rank_of}
 use Rattle.cl_state.specs.declared.state.RankState.{RankState}
-use Rattle.cl_names_laws.specs.Named.{hart_by, mode_by, rank_by}
+use Rattle.cl_explore.specs.Below.{hart_by, mode_by, rank_by}
 use Rattle.cl_machine.specs.Cluster.{Cluster, IsRun, loaded_cluster}
 use Rattle.cl_machine.specs.declared.steps.Step.{Step}
 use Rattle.cl_order_laws.specs.Alike.{AlikeRanks}
 use Rattle.cl_order_laws.specs.Closed.{FollowPlans, IsEnd, Node, none_had, had_after}
-use Rattle.cl_order_laws.specs.Laws.{AreAlike}
 use Rattle.cl_outcome_laws.specs.Unending.{MayEnd}
-use Rattle.cl_deadlock.specs.Why.{AreBelow}
+use Rattle.cl_explore.specs.Below.{AreBelow}
 use Rattle.cl_deadlock_laws.proofs.Reached.{comes_reached}
-use Rattle.cl_record.specs.Plans.{IsOrder}
+use Rattle.cl_explore.specs.Below.{IsOrder}
 use Rattle.cl_moves.specs.Standing.{IsWay, by_order, first_node, node_of}
-use Rattle.cl_explore.specs.Ends.{Explored, ExploredFrom, Findings}
+use Rattle.cl_explore.specs.Ends.{AreAlikeEnds, Explored, ExploredFrom, Findings}
 use Rattle.cl_explore.specs.declared.companies.Company.{Company}
 use Rattle.cl_explore.specs.declared.kept.KeptNode.{KeptNode}
 use Rattle.cl_explore.proofs.Keeping.{node_found}
@@ -137,23 +136,23 @@ module _ (names : Renaming) where
       let first = first_alike x y xs ys alike in
       λ i. (ap p first.1 ∙ same first.0 x) i || any_same p same xs ys (rest_alike x y xs ys alike) i
 
-alike_lists : (a b : Cluster) (alike : AreAlike a b) → AreAlikeLists alike.0 a.ranks b.ranks
-alike_lists a b alike = (((alike.1).ranks).many, ((alike.1).ranks).each)
+alike_lists : (a b : Cluster) (alike : AreAlikeEnds a b) → AreAlikeLists (alike.1).0 a.ranks b.ranks
+alike_lists a b alike = ((((alike.1).1).ranks).many, (((alike.1).1).ranks).each)
 
-lines_alike : (order : List ℕ) (a b : Cluster) → AreAlike a b → rank_lines order b ≡ rank_lines order a
-lines_alike order a b alike = lines_same alike.0 order 0 a.ranks b.ranks (alike_lists a b alike)
+lines_alike : (order : List ℕ) (a b : Cluster) → AreAlikeEnds a b → rank_lines order b ≡ rank_lines order a
+lines_alike order a b alike = lines_same (alike.1).0 order 0 a.ranks b.ranks (alike_lists a b alike)
 
-traps_alike : (a b : Cluster) → AreAlike a b
+traps_alike : (a b : Cluster) → AreAlikeEnds a b
     → list_any (λ (rank : Rank). has_trapped rank.harts) b.ranks ≡ list_any (λ (rank : Rank). has_trapped rank.harts) a.ranks
 traps_alike a b alike =
-    any_same alike.0 (λ (rank : Rank). has_trapped rank.harts) (λ clock rank. trapped_same alike.0 rank.harts) a.ranks b.ranks
+    any_same (alike.1).0 (λ (rank : Rank). has_trapped rank.harts) (λ clock rank. trapped_same (alike.1).0 rank.harts) a.ranks b.ranks
     (alike_lists a b alike)
 
-waits_alike : (order : List ℕ) (a b : Cluster) → AreAlike a b
+waits_alike : (order : List ℕ) (a b : Cluster) → AreAlikeEnds a b
     → list_any (λ (rank : Rank). one_waits order rank.harts) b.ranks
     ≡ list_any (λ (rank : Rank). one_waits order rank.harts) a.ranks
 waits_alike order a b alike =
-    any_same alike.0 (λ (rank : Rank). one_waits order rank.harts) (λ clock rank. waits_same alike.0 order rank.harts) a.ranks
+    any_same (alike.1).0 (λ (rank : Rank). one_waits order rank.harts) (λ clock rank. waits_same (alike.1).0 order rank.harts) a.ranks
     b.ranks (alike_lists a b alike)
 
 -- ---- the text of a node
@@ -257,7 +256,7 @@ holds_some p (Some what) is = (what, refl, is)
 module _ (image : ImageParts) (order : List ℕ) (found other : Findings) (one : Explored image order found)
     (two : Explored image order other) (whole : other.left ≡ 0) (p : KeptNode → Bool) (q : List Rank → Bool)
     (is : (what : KeptNode) → p what ≡ q what.cluster.ranks)
-    (same : (a b : Cluster) → AreAlike a b → q b.ranks ≡ q a.ranks) where
+    (same : (a b : Cluster) → AreAlikeEnds a b → q b.ranks ≡ q a.ranks) where
   end_there : any_end p found.kept found.ends ≡ true → any_end p other.kept other.ends ≡ true
   end_there any =
       let e = any_some (λ i. holds_of p (slice_get found.kept i)) found.ends any in

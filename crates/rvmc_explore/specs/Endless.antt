@@ -1,14 +1,14 @@
 -- What a search says of runs of any length, finished or not: whether they can still end, and whether ranks are stuck.
 use Rattle.std.specs.Prelude.{ℕ, ◌≡◌, Bool, true, false, List, length, slice_get, Some}
-use Rattle.rv_image.specs.declared.images.ImageParts.{ImageParts}
+use Rattle.rv_image_types.specs.declared.images.ImageParts.{ImageParts}
 use Rattle.cl_machine.specs.Cluster.{Cluster, IsRun}
 use Rattle.cl_machine.specs.declared.steps.Step.{Step}
 use Rattle.cl_order_laws.specs.Closed.{FollowPlans, Node, had_after}
 use Rattle.cl_outcome_laws.specs.Companies.{IsCompany}
 use Rattle.cl_outcome_laws.specs.Unending.{MayEnd, NeverEnds}
-use Rattle.cl_deadlock.specs.Why.{AreBelow}
+use Rattle.cl_explore.specs.Below.{AreBelow}
 use Rattle.cl_deadlock_laws.specs.Stuck.{IsReachable}
-use Rattle.cl_record.specs.Plans.{IsOrder}
+use Rattle.cl_explore.specs.Below.{IsOrder}
 use Rattle.cl_moves.specs.Standing.{IsWay, by_order, first_node, node_of}
 use Rattle.cl_explore.specs.Covering.{HasLead}
 use Rattle.cl_explore.specs.Ends.{ExploredFrom, Findings}

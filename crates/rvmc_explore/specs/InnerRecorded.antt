@@ -1,7 +1,7 @@
 -- The steps to an end, whichever image and order the search was of.
 use Rattle.std.specs.Prelude.{ℕ, ◌≡◌, List, Option, slice_get, Some}
-use Rattle.rv_image.specs.Image.{IsImage}
-use Rattle.rv_image.specs.declared.images.ImageParts.{ImageParts}
+use Rattle.rv_image_types.specs.Image.{IsImage}
+use Rattle.rv_image_types.specs.declared.images.ImageParts.{ImageParts}
 use Rattle.cl_machine.specs.Cluster.{IsRun, loaded_cluster}
 use Rattle.cl_machine.specs.Merge.{IsMerge}
 use Rattle.cl_machine.specs.Order.{of_rank}

@@ -12,3 +12,4 @@ pub mod StatusLaw
 pub mod OneList
 pub mod Starting
 pub mod SplitLaw
+pub mod Below

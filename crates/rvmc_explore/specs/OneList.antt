@@ -1,15 +1,15 @@
 -- That what is told of one image and one order is one, where no state is left.
 use Rattle.std.specs.Prelude.{ℕ, suc, ◌≡◌, ◌⊎◌, ◌++◌, List, [], Bool, false, slice_get, Some}
 use Rattle.std.specs.List.{enumerate_from, flat_map, list_any}
-use Rattle.rv_image.specs.Image.{IsImage}
-use Rattle.rv_image.specs.declared.images.ImageParts.{ImageParts}
+use Rattle.rv_image_types.specs.Image.{IsImage}
+use Rattle.rv_image_types.specs.declared.images.ImageParts.{ImageParts}
 use Rattle.cl_state.specs.Rank.{Rank}
 use Rattle.cl_machine.specs.Cluster.{Cluster, IsRun, loaded_cluster}
 use Rattle.cl_machine.specs.declared.steps.Step.{Step}
 use Rattle.cl_order_laws.specs.Closed.{FollowPlans, IsEnd, Node, none_had}
-use Rattle.cl_order_laws.specs.Laws.{AreAlike}
-use Rattle.cl_record.specs.Plans.{IsOrder}
+use Rattle.cl_explore.specs.Below.{IsOrder}
 use Rattle.cl_moves.specs.Standing.{IsWay, by_order, first_node}
+use Rattle.cl_explore.specs.Ends.{AreAlikeEnds}
 use Rattle.cl_replay.specs.States.{ClusterStandsFor}
 use Rattle.cl_replay.specs.declared.states.ClusterState.{ClusterState}
 use Rattle.rvmc_inspect.specs.Why.{company_text}
@@ -42,7 +42,7 @@ pub record TellsEnd (image : ImageParts) (order : List ℕ) (states turns : ℕ)
   pub number : ℕ
   pub node : Node
   pub there : slice_get (((listed.searched).explored).nodes) number ≡ Some node
-  pub alike : AreAlike end node.cluster
+  pub alike : AreAlikeEnds end node.cluster
   pub body : List ℕ
   pub told_is : HasBody told body
   pub is : IsEndBody order image (listed.found).kept number body

@@ -1,6 +1,6 @@
 -- What is told of a search: its ends, and ranks that are stuck while others run on.
 use Rattle.std.specs.Prelude.{ℕ, ◌≡◌, ◌⊎◌, List, [], ◌∷◌, ◌++◌, Bool, true, map, slice_get, Some}
-use Rattle.rv_image.specs.declared.images.ImageParts.{ImageParts}
+use Rattle.rv_image_types.specs.declared.images.ImageParts.{ImageParts}
 use Rattle.cl_explore.specs.Ends.{Findings}
 use Rattle.cl_explore.specs.declared.companies.Company.{Company}
 use Rattle.cl_explore.specs.declared.kept.KeptNode.{KeptNode}

@@ -1,13 +1,13 @@
 -- A record of an outcome.
 use Rattle.std.specs.Prelude.{ℕ, zero, suc, ◌≡◌, ◌⊎◌, List, Option, Some, None, slice_get}
-use Rattle.rv_image.specs.declared.images.ImageParts.{ImageParts}
+use Rattle.rv_image_types.specs.declared.images.ImageParts.{ImageParts}
 use Rattle.cl_machine.specs.declared.steps.Step.{Step}
 use Rattle.cl_machine.specs.Cluster.{IsRun, loaded_cluster}
 use Rattle.cl_machine.specs.Merge.{IsMerge}
 use Rattle.cl_machine.specs.Order.{of_rank}
 use Rattle.cl_order_laws.specs.Closed.{IsEnd, Node}
 use Rattle.cl_moves.specs.Standing.{IsWay, by_order, first_node}
-use Rattle.cl_deadlock.specs.Why.{IsVerdictOf}
+use Rattle.cl_explore.specs.Below.{IsVerdictOf}
 use Rattle.rvmc_explore.specs.Outcomes.{IsListOf, nodes_told}
 use Rattle.rvmc_explore.specs.declared.outcomes.Outcome.{Outcome}
 

@@ -1,6 +1,6 @@
 -- What a search found, and which of its nodes lead where.
 use Rattle.std.specs.Prelude.{ℕ, zero, suc, ◌≡◌, ◌<◌, Bool, true, List, length, slice_get, Some, None}
-use Rattle.rv_image.specs.declared.images.ImageParts.{ImageParts}
+use Rattle.rv_image_types.specs.declared.images.ImageParts.{ImageParts}
 use Rattle.cl_explore.specs.Covering.{HasLead}
 use Rattle.cl_explore.specs.Ends.{Explored, Findings, IsBounded}
 use Rattle.cl_explore.specs.declared.companies.Company.{Company}

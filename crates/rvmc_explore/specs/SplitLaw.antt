@@ -1,6 +1,6 @@
 -- The law of a split.
 use Rattle.std.specs.Prelude.{ℕ, ◌≡◌, List, slice_get, Some}
-use Rattle.rv_image.specs.declared.images.ImageParts.{ImageParts}
+use Rattle.rv_image_types.specs.declared.images.ImageParts.{ImageParts}
 use Rattle.cl_machine.specs.Cluster.{Cluster, IsRun, loaded_cluster}
 use Rattle.cl_machine.specs.declared.steps.Step.{Step}
 use Rattle.cl_order_laws.specs.Closed.{FollowPlans, IsEnd, Node, none_had}

@@ -1,11 +1,12 @@
 -- The starts of a split.
-use Rattle.std.specs.Prelude.{ℕ, ◌+◌, ◌<◌, ◌≤◌, ◌≡◌, ◌⊎◌, List, ◌++◌, ◌∷◌, [], length, map, slice_get, Option, Some, None, false}
+use Rattle.std.specs.Prelude.{ℕ, ◌+◌, ◌<◌, ◌≤◌, ◌≡◌, ◌⊎◌, List, ◌++◌, ◌∷◌, [], length, map, slice_get, Option, Some, None}
 use Rattle.std.specs.List.{flat_map}
 use Rattle.rv_image.specs.Text.{image_text}
-use Rattle.rv_image.specs.declared.images.ImageParts.{ImageParts}
+use Rattle.rv_image_types.specs.declared.images.ImageParts.{ImageParts}
 use Rattle.cl_machine.specs.declared.steps.Step.{Step}
 use Rattle.cl_order_laws.specs.Closed.{Node}
 use Rattle.cl_explore.specs.Ends.{AreTurnsTo, Explored, Findings, IsBounded}
+use Rattle.cl_explore.specs.How.{plainly}
 use Rattle.cl_explore.specs.Orders.{IsOrderedWay}
 use Rattle.cl_explore.specs.declared.kept.KeptNode.{KeptNode}
 use Rattle.rvmc_report.specs.Report.{newline}
@@ -86,7 +87,7 @@ Reach image order nodes ends left starts =
 pub record IsSplit (image : ImageParts) (order : List ℕ) (states turns least : ℕ) (text : List ℕ) : Type 0 where
   pub found : Findings
   pub explored : Explored image order found
-  pub plain : explored.sure ≡ false
+  pub plain : explored.how ≡ plainly
   pub most : IsBounded states (Some least) turns found.kept found.left
   pub starts : List Start
   pub split : ℕ

@@ -1,7 +1,7 @@
 -- What is told of a start.
 use Rattle.std.specs.Prelude.{ℕ, ◌≡◌, ◌≢◌, List, true, length, slice_get, Option, None, Some}
 use Rattle.rv_image.specs.Text.{image_text}
-use Rattle.rv_image.specs.declared.images.ImageParts.{ImageParts}
+use Rattle.rv_image_types.specs.declared.images.ImageParts.{ImageParts}
 use Rattle.cl_machine.specs.declared.steps.Step.{Step}
 use Rattle.cl_explore.specs.Ends.{ExploredBehind, Findings, IsBounded}
 use Rattle.cl_explore.specs.Orders.{IsTurnless}

@@ -1,7 +1,7 @@
 -- What a status says of all runs.
 use Rattle.std.specs.Prelude.{ℕ, List}
-use Rattle.rv_image.specs.declared.images.ImageParts.{ImageParts}
-use Rattle.cl_record.specs.Plans.{IsOrder}
+use Rattle.rv_image_types.specs.declared.images.ImageParts.{ImageParts}
+use Rattle.cl_explore.specs.Below.{IsOrder}
 use Rattle.cl_moves.specs.Standing.{first_node}
 use Rattle.rvmc_explore.specs.Endless.{AllMayEnd, NeverStuck, SomeNeverEnds}
 use Rattle.rvmc_explore.specs.Telling.{Tells}

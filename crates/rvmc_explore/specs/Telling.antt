@@ -2,7 +2,7 @@
 use Rattle.std.specs.Prelude.{ℕ, ◌+◌, ◌≡◌, ◌++◌, ◌==◌, ◌||◌, List, [], ◌∷◌, Bool, false, not, Option, Some, None, codes, if◌then◌else◌, length, slice_get}
 use Rattle.std.specs.Fmt.{decimal}
 use Rattle.std.specs.List.{list_any}
-use Rattle.rv_image.specs.declared.images.ImageParts.{ImageParts}
+use Rattle.rv_image_types.specs.declared.images.ImageParts.{ImageParts}
 use Rattle.cl_moves.specs.Standing.{first_node}
 use Rattle.cl_explore.specs.Ends.{Findings}
 use Rattle.cl_explore.specs.declared.companies.Company.{Company}
@@ -15,13 +15,13 @@ use Rattle.rvmc_explore.specs.declared.outcomes.Outcome.{Outcome}
 
 -- ---- one outcome
 
--- `end N`
-abbrev pub end_number : ℕ → List ℕ
-end_number number = codes "end " ++ decimal number
+-- `outcome N`
+abbrev pub outcome_number : ℕ → List ℕ
+outcome_number number = codes "outcome " ++ decimal number
 
--- a text with the line of an end behind it: its number, and something by which it differs from the first one
+-- a text with the line of an outcome behind it: its number, and something by which it differs from the first one
 abbrev pub AddsHead : ℕ → List ℕ → List ℕ → Type 0
-AddsHead number old new = (more : List ℕ) × (new ≡ old ++ (end_number number ++ (more ++ newline)))
+AddsHead number old new = (more : List ℕ) × (new ≡ old ++ (outcome_number number ++ (more ++ newline)))
 
 -- a text with all that is told of an outcome behind it
 abbrev pub AddsOutcome : ℕ → Outcome → List ℕ → List ℕ → Type 0
@@ -36,7 +36,7 @@ AddsOutcomes number [] old new = new ≡ old
 AddsOutcomes number (outcome ∷ outcomes) old new =
     (mid : List ℕ) × AddsOutcome number outcome old mid × AddsOutcomes (number + 1) outcomes mid new
 
--- `1 end`, `2 ends`
+-- `1 outcome`, `2 outcomes`
 abbrev pub count_text : ℕ → List ℕ → List ℕ
 count_text count word =
     if (count == 1) then codes "1 " ++ word else (decimal count ++ (codes " " ++ (word ++ codes "s")))
@@ -48,19 +48,23 @@ want left (Some rank) turns =
     codes "not all: rank " ++ (decimal rank ++ (codes " takes more than " ++ (decimal turns ++ codes " turns alone")))
 want left None turns = codes "not all: " ++ (decimal left ++ codes " states are left")
 
--- `no other end` only where no state is left whose moves weren't made
+-- `no other outcome` only where no state is left whose moves weren't made
 abbrev pub verdict : ℕ → Option ℕ → ℕ → List ℕ
-verdict left long turns = if (left == 0) then codes "no other end" else want left long turns
+verdict left long turns = if (left == 0) then codes "no other outcome" else want left long turns
 
 -- where some state leads to no end
 abbrev pub unending_line : Bool → List ℕ
 unending_line unending = if unending then codes "some runs go on for ever" ++ newline else []
 
--- `2 ends of 20 states: no other end`
+-- `2 outcomes of 20 states`
+abbrev pub counts_text : ℕ → ℕ → List ℕ
+counts_text outcomes states =
+    count_text outcomes (codes "outcome") ++ (codes " of " ++ count_text states (codes "state"))
+
+-- `2 outcomes of 20 states: no other outcome`
 abbrev pub last_line : ℕ → ℕ → ℕ → Option ℕ → ℕ → List ℕ
-last_line ends states left long turns =
-    count_text ends (codes "end")
-    ++ (codes " of " ++ (count_text states (codes "state") ++ (codes ": " ++ (verdict left long turns ++ newline))))
+last_line outcomes states left long turns =
+    counts_text outcomes states ++ (codes ": " ++ (verdict left long turns ++ newline))
 
 -- ---- the status
 

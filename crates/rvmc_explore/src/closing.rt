@@ -1,7 +1,7 @@
-//! The last line: whether the ends are all.
+//! The last line: whether the outcomes are all.
 
 ghost use Rattle.std.specs.Prelude.{◌≡◌, IfOk, length, string_bytes};
-ghost use Rattle.rvmc_explore.specs.Telling.{count_text, last_line, verdict, want};
+ghost use Rattle.rvmc_explore.specs.Telling.{count_text, counts_text, last_line, verdict, want};
 
 use cl_explore::Exploration;
 use std::alloc::{AllocError, Global};
@@ -17,7 +17,7 @@ fn counted(alloc: Global, count: usize, word: &str) -> Result<String, AllocError
     }
 }
 
-/// Why not all ends were told.
+/// Why not all outcomes were told.
 fn want(alloc: Global, left: usize, long: Option<u8>, turns: u64) -> Result<String, AllocError>
     ensures { IfOk result (λ text. string_bytes text ≡ want left long turns) }
 {
@@ -27,29 +27,37 @@ fn want(alloc: Global, left: usize, long: Option<u8>, turns: u64) -> Result<Stri
     }
 }
 
-/// Whether all ends were told, or why not.
+/// Whether all outcomes were told, or why not.
 fn verdict(alloc: Global, left: usize, long: Option<u8>, turns: u64) -> Result<String, AllocError>
     ensures { IfOk result (λ text. string_bytes text ≡ verdict left long turns) }
 {
     if left == 0 {
-        format!(in alloc; "no other end")
+        format!(in alloc; "no other outcome")
     } else {
         want(alloc, left, long, turns)
     }
+}
+
+/// How many outcomes are told, of how many states.
+fn counts(alloc: Global, outcomes: usize, states: usize) -> Result<String, AllocError>
+    ensures { IfOk result (λ text. string_bytes text ≡ counts_text outcomes states) }
+{
+    let told = counted(alloc, outcomes, "outcome")?;
+    let kept = counted(alloc, states, "state")?;
+    format!(in alloc; "{told} of {kept}")
 }
 
 /// The last line.
 pub(crate) fn last_line(
     alloc: Global,
     found: &Exploration,
-    ends: usize,
+    outcomes: usize,
     turns: u64,
 ) -> Result<String, AllocError>
     ensures { IfOk result (λ text. string_bytes text
-        ≡ last_line ends (length found.now.nodes.items) found.now.left found.now.long turns) }
+        ≡ last_line outcomes (length found.now.nodes.items) found.now.left found.now.long turns) }
 {
-    let ends = counted(alloc, ends, "end")?;
-    let states = counted(alloc, found.nodes.len(), "state")?;
+    let counts = counts(alloc, outcomes, found.nodes.len())?;
     let verdict = verdict(alloc, found.left, found.long, turns)?;
-    format!(in alloc; "{ends} of {states}: {verdict}\n")
+    format!(in alloc; "{counts}: {verdict}\n")
 }

@@ -1,4 +1,4 @@
-//! The first message by which one end differs from another.
+//! The first message by which one outcome differs from another.
 
 use cl_machine::{KindRef, Step};
 use mp_types::{Envelope, Gots, Reply};
@@ -11,6 +11,22 @@ pub(crate) struct Reception {
     pub source: u8,
     /// Whether it was received; else it was only seen by a probe.
     pub got: bool,
+    /// How many messages of the same rank the step brought before it.
+    pub nth: usize,
+}
+
+/// How many messages of this source the step at this place brought up to now.
+fn brought(found: &[Reception], place: usize, source: u8) -> usize {
+    let mut count = 0_usize;
+    for reception in found.iter().rev() {
+        if reception.place != place {
+            return count;
+        }
+        if reception.source == source {
+            count = count.saturating_add(1);
+        }
+    }
+    count
 }
 
 /// One more message, of this envelope.
@@ -21,7 +37,13 @@ fn note(
     got: bool,
 ) -> Result<(), AllocError> {
     let source = envelope.source;
-    found.push(Reception { place, source, got })?;
+    let nth = brought(found.as_slice(), place, source);
+    found.push(Reception {
+        place,
+        source,
+        got,
+        nth,
+    })?;
     Ok(())
 }
 
@@ -59,12 +81,12 @@ fn receptions(alloc: Global, steps: &[Step], rank: u8) -> Result<Vec<Reception>,
     Ok(found)
 }
 
-/// Another message than in the first end: which it is, and whose it was there.
+/// Another message than in the first outcome: which it is, and which it was there.
 #[derive(Clone, Copy, Drop)]
 pub(crate) struct Difference {
     pub rank: u8,
     pub here: Reception,
-    pub first: u8,
+    pub first: Reception,
 }
 
 /// The first message by which two lists differ.
@@ -74,7 +96,7 @@ fn first_apart(rank: u8, mine: &[Reception], theirs: &[Reception]) -> Option<Dif
             return Some(Difference {
                 rank,
                 here: *here,
-                first: there.source,
+                first: *there,
             });
         }
     }

@@ -8,7 +8,7 @@ ghost use Rattle.rvmc_explore.specs.Ends.{end_stop, stop_word, one_waits};
 use cl_replay::ClusterState;
 use cl_state::RankState;
 use rv_hart::{Hart, Mode};
-use rv_image::Image;
+use rv_image_types::Image;
 use rvmc_inspect::why;
 use rvmc_report::report::{put_harts, put_output};
 use std::alloc::{AllocError, Global};

@@ -1,75 +1,150 @@
-//! The line of an end.
+//! The line of an outcome.
 
 ghost use Rattle.std.specs.Prelude.{◌≡◌, ◌<◌, ◌+◌, IfOk, OnOk, length, string_bytes};
-ghost use Rattle.rvmc_explore.specs.Telling.{AddsHead, end_number};
+ghost use Rattle.rvmc_explore.specs.Telling.{AddsHead, outcome_number};
 
-use crate::differences::{Difference, first_difference};
+use crate::differences::{Difference, Reception, first_difference};
 use crate::outcomes::Outcome;
 use cl_explore::Exploration;
 use cl_machine::Step;
 use cl_replay::replay;
-use rv_image::Image;
-use rvmc_places::put_name;
+use cl_state::RankState;
+use rv_hart::Hart;
+use rv_image_types::Image;
+use rvmc_draw::{Arrow, Carried};
+use rvmc_picture::arrows;
+use rvmc_places::{is_in_library, put_name, put_own_place};
 use std::alloc::{AllocError, Global};
 
-/// The number of an end, from 1 on.
+/// The number of an outcome, from 1 on.
 fn number_text(alloc: Global, number: usize) -> Result<String, AllocError>
-    ensures { IfOk result (λ text. string_bytes text ≡ end_number number) }
+    ensures { IfOk result (λ text. string_bytes text ≡ outcome_number number) }
 {
-    format!(in alloc; "end {number}")
+    format!(in alloc; "outcome {number}")
 }
 
-/// Whose message a rank got or saw, and whose in the first end.
-fn other_message(alloc: Global, found: &Difference) -> Result<String, AllocError> {
-    let word = if found.here.got { "got" } else { "saw" };
-    let source = found.here.source;
-    let first = found.first;
-    format!(in alloc; " {word} rank {source}'s message, in end 1 rank {first}'s")
+/// Adds where a hart is: in the library, the program's own call that led there.
+fn put_line(
+    text: &mut Vec<u8>,
+    image: &Image,
+    rank: &RankState,
+    hart: &Hart,
+) -> Result<(), AllocError> {
+    let symbols = image.parts().symbols.as_slice();
+    if !is_in_library(symbols, &rank.memory, hart) {
+        return put_name(text, symbols, hart.pc());
+    }
+    put_own_place(text, symbols, &rank.memory, hart, "")?;
+    // the comma behind the call
+    let _ = text.pop();
+    Ok(())
 }
 
-/// Where the hart is whose turn a step is, before the step.
-fn address_before(
+/// Adds where the hart is whose turn the step at this place is, before the step.
+fn put_line_before(
     alloc: Global,
+    text: &mut Vec<u8>,
     image: &Image,
     steps: &[Step],
     place: usize,
-) -> Result<Option<u64>, AllocError> {
+) -> Result<(), AllocError> {
     let Some(step) = steps.get(place) else {
-        return Ok(None);
+        return Ok(());
     };
     let Ok(state) = replay(alloc, image, steps, place as u64) else {
         return Err(AllocError);
     };
     let Some(rank) = state.ranks.get(usize::from(step.rank())) else {
-        return Ok(None);
+        return Ok(());
     };
-    let Some(hart) = rank.harts.get(usize::from(step.hart())) else {
-        return Ok(None);
-    };
-    Ok(Some(hart.pc()))
+    match rank.harts.get(usize::from(step.hart())) {
+        None => Ok(()),
+        Some(hart) => put_line(text, image, rank, hart),
+    }
 }
 
-/// Where a rank got or saw another message than in the first end, and whose.
+/// Whether an arrow leads from the reception's source to the step that received.
+fn is_of(arrow: &Arrow, reception: &Reception) -> bool {
+    match (arrow.carried, arrow.to) {
+        (Carried::Message { .. }, Some(to)) => {
+            arrow.from.rank == reception.source && to.place == reception.place as u64
+        }
+        _ => false,
+    }
+}
+
+/// By which step the message was sent. None if it was only seen by a probe.
+fn sent_by(
+    alloc: Global,
+    image: &Image,
+    steps: &[Step],
+    reception: &Reception,
+) -> Result<Option<usize>, AllocError> {
+    if !reception.got {
+        return Ok(None);
+    }
+    let Ok(arrows) = arrows(alloc, image, steps) else {
+        return Err(AllocError);
+    };
+    let mut before = reception.nth;
+    for arrow in arrows.as_slice() {
+        if is_of(arrow, reception) {
+            if before == 0 {
+                return Ok(Some(arrow.from.place as usize));
+            }
+            before = before.saturating_sub(1);
+        }
+    }
+    Ok(None)
+}
+
+/// Adds where the message was sent, if it was received.
+fn put_sent(
+    alloc: Global,
+    text: &mut Vec<u8>,
+    image: &Image,
+    steps: &[Step],
+    reception: &Reception,
+) -> Result<(), AllocError> {
+    let Some(place) = sent_by(alloc, image, steps, reception)? else {
+        return Ok(());
+    };
+    text.extend_from_slice(b" (sent at ")?;
+    put_line_before(alloc, text, image, steps, place)?;
+    text.push(b')')?;
+    Ok(())
+}
+
+/// Where a rank got or saw another message than in the first outcome, whose it is and where it was sent, and the same of
+/// the first outcome.
 fn message_text(
     alloc: Global,
     image: &Image,
     steps: &[Step],
+    first: &[Step],
     found: &Difference,
 ) -> Result<Vec<u8>, AllocError> {
     let mut text = Vec::new(alloc);
-    let Some(address) = address_before(alloc, image, steps, found.here.place)? else {
-        return Ok(text);
-    };
-    let number = found.rank;
-    let rank = format!(in alloc; ": rank {number} at ")?;
-    let message = other_message(alloc, found)?;
+    let Difference {
+        rank,
+        here,
+        first: there,
+    } = found;
+    let (mine, theirs) = (here.source, there.source);
+    let rank = format!(in alloc; ": rank {rank} at ")?;
     text.extend_from_slice(rank.as_bytes())?;
-    put_name(&mut text, image.parts().symbols.as_slice(), address)?;
+    put_line_before(alloc, &mut text, image, steps, here.place)?;
+    let word = if here.got { "got" } else { "saw" };
+    let message = format!(in alloc; " {word} rank {mine}'s message")?;
     text.extend_from_slice(message.as_bytes())?;
+    put_sent(alloc, &mut text, image, steps, here)?;
+    let other = format!(in alloc; ", in outcome 1 rank {theirs}'s")?;
+    text.extend_from_slice(other.as_bytes())?;
+    put_sent(alloc, &mut text, image, first, there)?;
     Ok(text)
 }
 
-/// By which message an end differs from the first one, if it does by a message.
+/// By which message an outcome differs from the first one, if it does by a message.
 fn difference_text(
     alloc: Global,
     image: &Image,
@@ -85,7 +160,7 @@ fn difference_text(
     let ranks = image.parts().ranks;
     match first_difference(alloc, ranks, steps.as_slice(), first.as_slice())? {
         None => Ok(Vec::new(alloc)),
-        Some(found) => message_text(alloc, image, steps.as_slice(), &found),
+        Some(found) => message_text(alloc, image, steps.as_slice(), first.as_slice(), &found),
     }
 }
 

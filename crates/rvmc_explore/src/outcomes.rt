@@ -9,7 +9,7 @@ use crate::ends::put_end;
 use crate::telling::state_at;
 use crate::unending::leading_to;
 use cl_explore::{Company, Exploration};
-use rv_image::Image;
+use rv_image_types::Image;
 use rvmc_inspect::put_company;
 use std::alloc::{AllocError, Global};
 

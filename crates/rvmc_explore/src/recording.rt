@@ -11,7 +11,7 @@ use crate::outcomes::{Outcome, tell};
 use cl_explore::{Course, Exploration, explore, in_order};
 use cl_machine::Step;
 use cl_moves::MoveFault;
-use rv_image::Image;
+use rv_image_types::Image;
 use std::alloc::{AllocError, Global};
 
 /// The node of the outcome of this number, from 1.

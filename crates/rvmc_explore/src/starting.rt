@@ -18,7 +18,7 @@ use crate::telling::Told;
 use crate::unending::is_unending;
 use cl_explore::{Course, Exploration, OrderFault, explore_from};
 use cl_machine::Step;
-use rv_image::Image;
+use rv_image_types::Image;
 use rvmc_starts::{EndText, Ends, Part, Start, Text, put_part};
 use rvmc_words::Numbers;
 use std::alloc::{AllocError, Global};

@@ -14,7 +14,7 @@ use crate::unending::{is_unending, unending_line};
 use cl_explore::{Course, Exploration, explore};
 use cl_moves::MoveFault;
 use cl_replay::ClusterState;
-use rv_image::Image;
+use rv_image_types::Image;
 use std::alloc::{AllocError, Global};
 
 /// What is told of a search, and its status.

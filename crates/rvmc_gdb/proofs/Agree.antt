@@ -11,7 +11,7 @@ use Rattle.std.specs.Int.{w64, to_le_bytes}
 use Rattle.hex.proofs.HexLemmas.{length-encode_with}
 use Rattle.hex.specs.Hex.{lower_digits}
 use Rattle.rv_hart.specs.State.{State, read}
-use Rattle.rvmc_replies.specs.Digits.{register_text}
+use Rattle.rvmc_protocol.specs.Replies.Digits.{register_text}
 use Rattle.rvmc_gdb.specs.Laws.{AgreeLaw}
 use Rattle.rvmc_gdb.specs.Shown.{registers_text}
 

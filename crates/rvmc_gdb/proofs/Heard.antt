@@ -2,9 +2,9 @@
 use Rattle.std.specs.Prelude.{ℕ, ◌≡◌, Bool, true, List, [], ◌∷◌, ◌++◌, Option, Some, None}
 use Rattle.std.specs.Option.{option_to_list}
 use Rattle.std.proofs.Common.{refl, sym, ap, subst, ◌∙◌}
-use Rattle.rvmc_packets.proofs.Grammar.{held_is_told}
-use Rattle.rvmc_packets.specs.Reading.{Place, all_told, next_place, told}
-use Rattle.rvmc_packets.specs.declared.reader.Message.{Message}
+use Rattle.rvmc_protocol.proofs.Grammar.{held_is_told}
+use Rattle.rvmc_protocol.specs.Packets.Reading.{Place, all_told, next_place, told}
+use Rattle.rvmc_protocol.specs.declared.packets.reader.Message.{Message}
 use Rattle.rvmc_gdb.specs.Answers.{most}
 use Rattle.rvmc_gdb.specs.Laws.{HeardLaw, LeftLaw, PiecesLaw}
 use Rattle.rvmc_gdb.specs.Talks.{Connection, Converses, MeetsTold, MeetsUnless, Serves, Takes, Talk, talk_begun, connected}

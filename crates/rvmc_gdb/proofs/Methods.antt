@@ -4,8 +4,8 @@ use Rattle.std.specs.Option.{unwrap_or}
 use Rattle.std.specs.declared.alloc.Global.{Global}
 use Rattle.std.proofs.Common.{refl, sym, ap, subst, ◌∙◌}
 use Rattle.hex.specs.Hex.{encode_lower}
-use Rattle.rv_image.specs.declared.images.ImageParts.{ImageParts}
-use Rattle.rv_image.specs.declared.images.Symbol.{Symbol}
+use Rattle.rv_image_types.specs.declared.images.ImageParts.{ImageParts}
+use Rattle.rv_image_types.specs.declared.images.Symbol.{Symbol}
 use Rattle.cl_state.specs.Rank.{Rank}
 use Rattle.cl_replay.specs.Replaying.{IsReached}
 use Rattle.cl_replay.specs.declared.states.ClusterState.{ClusterState}

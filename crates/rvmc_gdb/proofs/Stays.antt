@@ -2,23 +2,23 @@
 use mathlib.Core.Logic.{inl, inr}
 use Rattle.std.specs.Prelude.{ℕ, ◌≡◌, ◌<◌, Bool, true, false, List, [], ◌∷◌, Option, Some, None, if◌then◌else◌, nat_lt}
 use Rattle.std.proofs.Common.{refl, sym, ap, subst, ◌∙◌, ltb-true}
-use Rattle.rv_image.specs.declared.images.ImageParts.{ImageParts}
+use Rattle.rv_image_types.specs.declared.images.ImageParts.{ImageParts}
 use Rattle.cl_debug.specs.Debugging.{Debugging, at_place}
 use Rattle.cl_debug.specs.declared.faults.DebugFault.{DebugFault}
-use Rattle.rvmc_monitor.specs.declared.typed.Typed.{Typed}
-use Rattle.rvmc_monitor.specs.declared.typed.Typed.TheVariants as typed
-use Rattle.rvmc_monitor.specs.Typed.{typed_word}
+use Rattle.rvmc_protocol.specs.declared.monitor.typed.Typed.{Typed}
+use Rattle.rvmc_protocol.specs.declared.monitor.typed.Typed.TheVariants as typed
+use Rattle.rvmc_protocol.specs.Monitor.Typed.{typed_word}
 use Rattle.rvmc_motions.specs.declared.marks.Mark.{Mark}
 use Rattle.rvmc_motions.specs.declared.marks.Mover.{Mover}
-use Rattle.rvmc_packets.specs.Reading.{told}
-use Rattle.rvmc_packets.specs.declared.reader.Message.{Message}
-use Rattle.rvmc_packets.specs.declared.reader.Message.TheVariants.{Again, Arrived, Packet, Wrong}
-use Rattle.rvmc_requests.specs.Requests.{request_in}
-use Rattle.rvmc_requests.specs.declared.requests.Request.{Request}
-use Rattle.rvmc_requests.specs.declared.requests.Request.TheVariants as request
-use Rattle.rvmc_requests.specs.declared.threads.Move.TheVariants as move
-use Rattle.rvmc_requests.specs.declared.threads.Thread.{Thread}
-use Rattle.rvmc_requests.specs.declared.threads.Thread.TheVariants as thread
+use Rattle.rvmc_protocol.specs.Packets.Reading.{told}
+use Rattle.rvmc_protocol.specs.declared.packets.reader.Message.{Message}
+use Rattle.rvmc_protocol.specs.declared.packets.reader.Message.TheVariants.{Again, Arrived, Packet, Wrong}
+use Rattle.rvmc_protocol.specs.Requests.{request_in}
+use Rattle.rvmc_protocol.specs.declared.requests.Request.{Request}
+use Rattle.rvmc_protocol.specs.declared.requests.Request.TheVariants as request
+use Rattle.rvmc_protocol.specs.declared.requests.threads.Move.TheVariants as move
+use Rattle.rvmc_protocol.specs.declared.requests.threads.Thread.{Thread}
+use Rattle.rvmc_protocol.specs.declared.requests.threads.Thread.TheVariants as thread
 use Rattle.rvmc_words.specs.declared.debug.DebugWord.TheVariants as word
 use Rattle.rvmc_gdb.specs.Answers.{Answers}
 use Rattle.rvmc_gdb.specs.Laws.{RecordStaysLaw}

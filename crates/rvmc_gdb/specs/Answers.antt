@@ -1,16 +1,16 @@
 -- The answer to each request, and how the session stands behind it.
 use Rattle.std.specs.Prelude.{ℕ, ◌≡◌, Bool, true, false, List, [], codes}
-use Rattle.rvmc_replies.specs.Features.{description_text}
-use Rattle.rvmc_replies.specs.Parts.{part_of}
-use Rattle.rvmc_replies.specs.Threads.{current_text, host_text, process_text, supported_text, threads_text}
+use Rattle.rvmc_protocol.specs.Replies.Features.{description_text}
+use Rattle.rvmc_protocol.specs.Replies.Parts.{part_of}
+use Rattle.rvmc_protocol.specs.Replies.Threads.{current_text, host_text, process_text, supported_text, threads_text}
 use Rattle.hex.specs.Hex.{encode_lower}
-use Rattle.rvmc_requests.specs.declared.requests.Request.{Request}
-use Rattle.rvmc_requests.specs.declared.requests.Request.TheVariants.{Supported, Description, ThreadList, HostInfo, ProcessInfo}
-use Rattle.rvmc_requests.specs.declared.requests.Request.TheVariants.{Why, Select, SelectMoved, Alive}
-use Rattle.rvmc_requests.specs.declared.requests.Request.TheVariants.{Current, FirstThreads, MoreThreads, ThreadText, Registers}
-use Rattle.rvmc_requests.specs.declared.requests.Request.TheVariants.{Register, Bytes, RawBytes, Moves, Move, StepBack, GoBack}
-use Rattle.rvmc_requests.specs.declared.requests.Request.TheVariants.{Insert, Remove, Detach, Kill, Monitor, NoAcknowledgements}
-use Rattle.rvmc_requests.specs.declared.requests.Request.TheVariants.{Change, Unknown}
+use Rattle.rvmc_protocol.specs.declared.requests.Request.{Request}
+use Rattle.rvmc_protocol.specs.declared.requests.Request.TheVariants.{Supported, Description, ThreadList, HostInfo, ProcessInfo}
+use Rattle.rvmc_protocol.specs.declared.requests.Request.TheVariants.{Why, Select, SelectMoved, Alive}
+use Rattle.rvmc_protocol.specs.declared.requests.Request.TheVariants.{Current, FirstThreads, MoreThreads, ThreadText, Registers}
+use Rattle.rvmc_protocol.specs.declared.requests.Request.TheVariants.{Register, Bytes, RawBytes, Moves, Move, StepBack, GoBack}
+use Rattle.rvmc_protocol.specs.declared.requests.Request.TheVariants.{Insert, Remove, Detach, Kill, Monitor, NoAcknowledgements}
+use Rattle.rvmc_protocol.specs.declared.requests.Request.TheVariants.{Change, Unknown}
 use Rattle.rvmc_gdb.specs.Moving.{Moves as MovesAs, RunsBack, Selects, SelectsMoved, StepsBack, standing_text}
 use Rattle.rvmc_gdb.specs.Points.{Inserts, Removes, mark_of}
 use Rattle.rvmc_gdb.specs.Serving.{Serving, done, own_thread, refused, thread_count, who_of}

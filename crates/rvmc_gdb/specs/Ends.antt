@@ -7,8 +7,8 @@ use Rattle.rvmc_draw.specs.declared.drawing.Arrow.{Arrow}
 use Rattle.rvmc_draw.specs.declared.drawing.Carried.{Carried}
 use Rattle.rvmc_draw.specs.declared.drawing.Carried.TheVariants.{Message, Could, Claim, Partition}
 use Rattle.rvmc_draw.specs.declared.drawing.Spot.{Spot}
-use Rattle.rvmc_report.specs.Report.{newline}
-use Rattle.rvmc_replies.specs.Threads.{name_text}
+use Rattle.rvmc_inspect.specs.Below.{newline}
+use Rattle.rvmc_protocol.specs.Replies.Threads.{name_text}
 use Rattle.rvmc_gdb.specs.declared.ends.Found.{Found}
 use Rattle.rvmc_gdb.specs.declared.ends.Side.{Side}
 use Rattle.rvmc_gdb.specs.declared.ends.Side.TheVariants.{Gets, Sends}

@@ -3,7 +3,7 @@ use Rattle.std.specs.Prelude.{ℕ, zero, suc, ◌≡◌, ◌-◌, ◌==◌, ◌&
 use Rattle.std.specs.Prelude.{codes, length, slice_get, Option, Some, None}
 use Rattle.std.specs.Fmt.{decimal}
 use Rattle.std.specs.Option.{unwrap_or}
-use Rattle.rv_image.specs.declared.images.Symbol.{Symbol}
+use Rattle.rv_image_types.specs.declared.images.Symbol.{Symbol}
 use Rattle.cl_machine.specs.declared.steps.Step.{Step}
 use Rattle.cl_debug.specs.Debugging.{Debugging, at_place}
 use Rattle.rvmc_draw.specs.declared.drawing.Arrow.{Arrow}
@@ -12,9 +12,9 @@ use Rattle.rvmc_motions.specs.declared.marks.Halt.{Halt}
 use Rattle.rvmc_motions.specs.declared.marks.Mark.{Mark}
 use Rattle.rvmc_motions.specs.declared.marks.Mover.{Mover}
 use Rattle.rvmc_motions.specs.Motions.{GoesBackwards}
-use Rattle.rvmc_replies.specs.declared.stops.Stop.{Stop}
-use Rattle.rvmc_replies.specs.declared.stops.Stop.TheVariants as stops
-use Rattle.rvmc_report.specs.Report.{newline}
+use Rattle.rvmc_protocol.specs.declared.replies.stops.Stop.{Stop}
+use Rattle.rvmc_protocol.specs.declared.replies.stops.Stop.TheVariants as stops
+use Rattle.rvmc_inspect.specs.Below.{newline}
 use Rattle.rvmc_words.specs.declared.debug.Spot.{Spot}
 use Rattle.rvmc_words.specs.declared.debug.Spot.TheVariants.{Address, Line, Name}
 use Rattle.rvmc_gdb.specs.declared.ends.Found.{Found}

@@ -4,9 +4,9 @@ use Rattle.rv_hart.specs.State.{State}
 use Rattle.cl_machine.specs.Cluster.{Cluster}
 use Rattle.rvmc_motions.specs.declared.marks.Mover.{Mover}
 use Rattle.rvmc_motions.specs.Turns.{IsHistory}
-use Rattle.rvmc_packets.specs.Frames.{Holds}
-use Rattle.rvmc_packets.specs.declared.reader.Message.{Message}
-use Rattle.rvmc_replies.specs.Digits.{register_text}
+use Rattle.rvmc_protocol.specs.Packets.Frames.{Holds}
+use Rattle.rvmc_protocol.specs.declared.packets.reader.Message.{Message}
+use Rattle.rvmc_protocol.specs.Replies.Digits.{register_text}
 use Rattle.rvmc_gdb.specs.Serving.{Serving}
 use Rattle.rvmc_gdb.specs.Moving.{Backwards, Forwards}
 use Rattle.rvmc_gdb.specs.Shown.{register_value, registers_text}

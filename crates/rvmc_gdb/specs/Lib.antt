@@ -10,3 +10,4 @@ pub mod Answers
 pub mod Following
 pub mod Talks
 pub mod Laws
+pub mod Below

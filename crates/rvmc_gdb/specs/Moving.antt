@@ -7,12 +7,12 @@ use Rattle.rvmc_motions.specs.declared.marks.Motion.{Motion}
 use Rattle.rvmc_motions.specs.declared.marks.Motion.TheVariants as motions
 use Rattle.rvmc_motions.specs.declared.marks.Mover.{Mover}
 use Rattle.rvmc_motions.specs.Motions.{GoesBackwards, GoesForwards}
-use Rattle.rvmc_replies.specs.Stops.{stop_text}
-use Rattle.rvmc_replies.specs.declared.stops.Stop.TheVariants as stops
-use Rattle.rvmc_requests.specs.declared.threads.Move.{Move}
-use Rattle.rvmc_requests.specs.declared.threads.Move.TheVariants.{Go, Step, Stop}
-use Rattle.rvmc_requests.specs.declared.threads.Thread.{Thread}
-use Rattle.rvmc_requests.specs.declared.threads.Thread.TheVariants.{All, Any, One}
+use Rattle.rvmc_protocol.specs.Replies.Stops.{stop_text}
+use Rattle.rvmc_protocol.specs.declared.replies.stops.Stop.TheVariants as stops
+use Rattle.rvmc_protocol.specs.declared.requests.threads.Move.{Move}
+use Rattle.rvmc_protocol.specs.declared.requests.threads.Move.TheVariants.{Go, Step, Stop}
+use Rattle.rvmc_protocol.specs.declared.requests.threads.Thread.{Thread}
+use Rattle.rvmc_protocol.specs.declared.requests.threads.Thread.TheVariants.{All, Any, One}
 use Rattle.rvmc_gdb.specs.declared.session.Goal.{Goal}
 use Rattle.rvmc_gdb.specs.declared.session.Who.{Who}
 use Rattle.rvmc_gdb.specs.Goals.{goal_ahead, goal_behind, goal_who, with_goal}

@@ -5,8 +5,8 @@ use Rattle.std.specs.List.{filter, list_any}
 use Rattle.rv_memory.specs.Access.{is_readable}
 use Rattle.cl_state.specs.Rank.{Rank}
 use Rattle.cl_debug.specs.Shown.{ShowsRank}
-use Rattle.rvmc_requests.specs.Laws.{point_number}
-use Rattle.rvmc_requests.specs.declared.points.Point.{Point}
+use Rattle.rvmc_protocol.specs.Requests.Laws.{point_number}
+use Rattle.rvmc_protocol.specs.declared.requests.points.Point.{Point}
 use Rattle.rvmc_motions.specs.declared.marks.Mark.{Mark}
 use Rattle.rvmc_motions.specs.declared.marks.Ranks.{Ranks}
 use Rattle.rvmc_motions.specs.declared.marks.Ranks.TheVariants as ranks

@@ -6,7 +6,7 @@ use Rattle.std.specs.List.{flat_map, range_with_len, slice_split}
 use Rattle.std.specs.Option.{unwrap_or}
 use Rattle.hex.specs.Hex.{encode_lower}
 use Rattle.rv_hart.specs.State.{State, read}
-use Rattle.rv_image.specs.declared.images.Symbol.{Symbol}
+use Rattle.rv_image_types.specs.declared.images.Symbol.{Symbol}
 use Rattle.cl_state.specs.declared.state.RankState.{RankState}
 use Rattle.cl_state.specs.Room.{rank_of}
 use Rattle.cl_replay.specs.Replaying.{IsReached}
@@ -14,9 +14,9 @@ use Rattle.cl_replay.specs.declared.states.ClusterState.{ClusterState}
 use Rattle.cl_debug.specs.Debugging.{Debugging}
 use Rattle.cl_debug.specs.Shown.{IsOutside, ShowsBytes, ShowsHart}
 use Rattle.rvmc_inspect.specs.Texts.{hart_waits_text}
-use Rattle.rvmc_replies.specs.Digits.{register_text}
-use Rattle.rvmc_replies.specs.Parts.{part_of}
-use Rattle.rvmc_replies.specs.Threads.{name_text, named_text}
+use Rattle.rvmc_protocol.specs.Replies.Digits.{register_text}
+use Rattle.rvmc_protocol.specs.Replies.Parts.{part_of}
+use Rattle.rvmc_protocol.specs.Replies.Threads.{name_text, named_text}
 use Rattle.rvmc_gdb.specs.declared.session.Who.{Who}
 use Rattle.rvmc_gdb.specs.Serving.{Serving, done, refused, thread_count, who_at, who_of}
 

@@ -1,12 +1,12 @@
 -- A session over a stream of bytes: what is written is the answers to the packets that the stream holds, in order.
 use Rattle.std.specs.Prelude.{ℕ, ◌≡◌, Bool, true, false, not, ◌&&◌, List, [], ◌++◌, Option, Some, None, if◌then◌else◌}
 use Rattle.std.specs.Str.{bytes_eq}
-use Rattle.rvmc_packets.specs.Frames.{acknowledgement, packet_of}
-use Rattle.rvmc_packets.specs.Reading.{Place, next_place, outside_of, told}
-use Rattle.rvmc_packets.specs.declared.reader.Message.{Message}
-use Rattle.rvmc_packets.specs.declared.reader.Message.TheVariants.{Again, Arrived, Packet, Wrong}
-use Rattle.rvmc_requests.specs.Requests.{request_in}
-use Rattle.rvmc_requests.specs.declared.requests.Request.{Request}
+use Rattle.rvmc_protocol.specs.Packets.Frames.{acknowledgement, packet_of}
+use Rattle.rvmc_protocol.specs.Packets.Reading.{Place, next_place, outside_of, told}
+use Rattle.rvmc_protocol.specs.declared.packets.reader.Message.{Message}
+use Rattle.rvmc_protocol.specs.declared.packets.reader.Message.TheVariants.{Again, Arrived, Packet, Wrong}
+use Rattle.rvmc_protocol.specs.Requests.{request_in}
+use Rattle.rvmc_protocol.specs.declared.requests.Request.{Request}
 use Rattle.rvmc_gdb.specs.Answers.{Answers, kills, leaves, most, quiets}
 use Rattle.rvmc_gdb.specs.Following.{Follows}
 use Rattle.rvmc_gdb.specs.Serving.{Serving}

@@ -11,18 +11,18 @@ use Rattle.cl_debug.specs.declared.faults.DebugFault.{DebugFault}
 use Rattle.cl_debug.specs.declared.faults.DebugFault.TheVariants as faults
 use Rattle.rvmc_words.specs.declared.debug.DebugWord.{DebugWord}
 use Rattle.rvmc_words.specs.declared.debug.DebugWord.TheVariants as word
-use Rattle.rvmc_monitor.specs.Typed.{typed_word}
-use Rattle.rvmc_monitor.specs.declared.typed.Typed.{Typed}
-use Rattle.rvmc_monitor.specs.declared.typed.Typed.TheVariants.{Help, Why, Rank, Go, Place, Regs, Bytes}
-use Rattle.rvmc_monitor.specs.declared.typed.Typed.TheVariants.{Sent, Got, LastWrite, Unknown}
-use Rattle.rvmc_report.specs.Report.{newline}
+use Rattle.rvmc_protocol.specs.Monitor.Typed.{typed_word}
+use Rattle.rvmc_protocol.specs.declared.monitor.typed.Typed.{Typed}
+use Rattle.rvmc_protocol.specs.declared.monitor.typed.Typed.TheVariants.{Help, Why, Rank, Go, Place, Regs, Bytes}
+use Rattle.rvmc_protocol.specs.declared.monitor.typed.Typed.TheVariants.{Sent, Got, LastWrite, Unknown}
+use Rattle.rvmc_inspect.specs.Below.{newline}
 use Rattle.rvmc_inspect.specs.Why.{IsWhy}
 use Rattle.rvmc_inspect.specs.Words.{Does, IsSpot, IsUnknown, Refuses}
 use Rattle.rvmc_motions.specs.declared.marks.Mark.{Mark}
 use Rattle.rvmc_motions.specs.declared.marks.Motion.TheVariants as motions
 use Rattle.rvmc_motions.specs.declared.marks.Mover.{Mover}
 use Rattle.rvmc_motions.specs.declared.marks.Ranks.TheVariants as ranks
-use Rattle.rvmc_requests.specs.declared.points.Point.TheVariants.{Written}
+use Rattle.rvmc_protocol.specs.declared.requests.points.Point.TheVariants.{Written}
 use Rattle.rvmc_words.specs.declared.debug.Spot.{Spot}
 use Rattle.rvmc_gdb.specs.declared.ends.Found.{Found}
 use Rattle.rvmc_gdb.specs.declared.ends.Side.{Side}

@@ -1,13 +1,13 @@
 //! The answer to each request.
 
 ghost use Rattle.std.specs.Prelude.{◌≡◌, IfOk};
-ghost use Rattle.rvmc_replies.specs.Threads.{current_text, host_text, process_text, supported_text, threads_text};
+ghost use Rattle.rvmc_protocol.specs.Replies.Threads.{current_text, host_text, process_text, supported_text, threads_text};
 ghost use Rattle.rvmc_gdb.specs.Answers.{kills, leaves, most, quiets};
 
 use crate::session::{Session, text_of};
 use rvmc_motions::Mark;
-use rvmc_replies::{put_current, put_host, put_process, put_supported, put_threads};
-use rvmc_requests::{Point, Request};
+use rvmc_protocol::replies::{put_current, put_host, put_process, put_supported, put_threads};
+use rvmc_protocol::requests::{Point, Request};
 use std::alloc::AllocError;
 
 /// How many bytes the text of a packet has at most.

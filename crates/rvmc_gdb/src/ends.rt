@@ -6,7 +6,7 @@ ghost use Rattle.rvmc_gdb.specs.Ends.{other_spot, own_from, own_place, own_spot,
 
 use crate::session::{Goal, Who};
 use rvmc_draw::{Arrow, Carried, Spot};
-use rvmc_replies::put_name;
+use rvmc_protocol::replies::put_name;
 use std::io;
 use std::io::Write;
 

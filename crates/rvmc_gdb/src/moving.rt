@@ -1,12 +1,12 @@
 //! Threads that are meant, and their motions.
 
 ghost use Rattle.std.specs.Prelude.{◌≡◌, IfOk};
-ghost use Rattle.rvmc_replies.specs.Stops.{stop_text};
+ghost use Rattle.rvmc_protocol.specs.Replies.Stops.{stop_text};
 
 use crate::session::{Goal, Session, Who};
 use rvmc_motions::{Halt, Motion, Mover, backwards, forwards};
-use rvmc_replies::{Stop, put_stop};
-use rvmc_requests::{Move, Thread};
+use rvmc_protocol::replies::{Stop, put_stop};
+use rvmc_protocol::requests::{Move, Thread};
 use std::alloc::{AllocError, Global};
 
 /// The text of a stop.

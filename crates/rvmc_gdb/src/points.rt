@@ -3,14 +3,14 @@
 ghost use Rattle.std.specs.Prelude.{◌≡◌, IfOk, not, option_map, true};
 ghost use Rattle.std.specs.List.{filter};
 ghost use Rattle.cl_state.specs.Room.{rank_of};
-ghost use Rattle.rvmc_requests.specs.Laws.{point_number};
+ghost use Rattle.rvmc_protocol.specs.Requests.Laws.{point_number};
 ghost use Rattle.rvmc_motions.specs.Marks.{is_watch};
 ghost use Rattle.rvmc_gdb.specs.Points.{can_add, can_stand, has_mark, is_same, marks_without, same_ranks};
 
 use crate::session::Session;
 use cl_state::RankState;
 use rvmc_motions::{Mark, Ranks};
-use rvmc_requests::Point;
+use rvmc_protocol::requests::Point;
 use std::alloc::{AllocError, Global};
 
 /// How many points there are at most.

@@ -1,13 +1,13 @@
 //! The session over a stream of bytes.
 
 ghost use Rattle.std.specs.Prelude.{◌≡◌, ◌++◌, IfOk, List, OnOk, ℕ};
-ghost use Rattle.rvmc_packets.specs.Frames.{packet_of};
+ghost use Rattle.rvmc_protocol.specs.Packets.Frames.{packet_of};
 ghost use Rattle.rvmc_gdb.specs.Talks.{is_unread};
 
 use crate::answers::{MOST, kills, leaves, quiets};
 use crate::session::Session;
-use rvmc_packets::{Message, Payload, Reader, acknowledgement, put_packet};
-use rvmc_requests::{Request, request_in};
+use rvmc_protocol::packets::{Message, Payload, Reader, acknowledgement, put_packet};
+use rvmc_protocol::requests::{Request, request_in};
 use std::alloc::{AllocError, Global};
 use std::marker::Model;
 

@@ -4,9 +4,9 @@ ghost use Rattle.std.specs.Prelude.{◌≡◌, ◌<◌, ◌≤◌, ◌+◌, ◌+
 ghost use Rattle.std.specs.List.{range_with_len, slice_split};
 ghost use Rattle.std.specs.Option.{option_copied, unwrap_or};
 ghost use Rattle.hex.specs.Hex.{encode_lower};
-ghost use Rattle.rvmc_replies.specs.Digits.{register_text};
-ghost use Rattle.rvmc_replies.specs.Features.{description_text};
-ghost use Rattle.rvmc_replies.specs.Parts.{part_of};
+ghost use Rattle.rvmc_protocol.specs.Replies.Digits.{register_text};
+ghost use Rattle.rvmc_protocol.specs.Replies.Features.{description_text};
+ghost use Rattle.rvmc_protocol.specs.Replies.Parts.{part_of};
 ghost use Rattle.rvmc_gdb.specs.Serving.{refused};
 ghost use Rattle.rvmc_gdb.specs.Shown.{IsLine, behind_name, line_at, wait_lines, register_value, registers_of, registers_text};
 
@@ -16,9 +16,9 @@ use cl_replay::ClusterState;
 use cl_state::RankState;
 use rv_decode::Reg;
 use rv_hart::Hart;
-use rv_image::Symbol;
+use rv_image_types::Symbol;
 use rvmc_inspect::put_harts;
-use rvmc_replies::{description, put_bytes, put_name, put_named, put_part, put_register};
+use rvmc_protocol::replies::{description, put_bytes, put_name, put_named, put_part, put_register};
 use std::alloc::{AllocError, Global};
 use std::io;
 

@@ -16,9 +16,9 @@ use crate::shown::digits_of;
 use cl_debug::{DebugFault, Debugger};
 use rvmc_draw::Arrow;
 use rvmc_inspect::{address_of, bytes_text, place_text, regs_text, why};
-use rvmc_monitor::{Typed, typed_word};
 use rvmc_motions::{Mark, Motion, Mover, Ranks};
-use rvmc_requests::Point;
+use rvmc_protocol::monitor::{Typed, typed_word};
+use rvmc_protocol::requests::Point;
 use rvmc_words::Spot;
 use std::alloc::{AllocError, Global};
 

@@ -2,3 +2,4 @@ pub mod Lines
 pub mod Sends
 pub mod ByteLines
 pub mod Walking
+pub mod Below

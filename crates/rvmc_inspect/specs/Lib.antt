@@ -4,3 +4,4 @@ pub mod Unreceived
 pub mod Why
 pub mod WordTexts
 pub mod Words
+pub mod Below

@@ -2,7 +2,7 @@
 use Rattle.std.specs.Prelude.{ℕ, ◌≡◌, ◌≢◌, ◌<◌, ◌≤◌, ◌++◌, ⊤, Bool, List, [], ◌∷◌, length, slice_get, take}
 use Rattle.std.specs.Prelude.{Option, None, Some}
 use Rattle.rv_hart.specs.State.{State}
-use Rattle.rv_image.specs.declared.images.ImageParts.{ImageParts}
+use Rattle.rv_image_types.specs.declared.images.ImageParts.{ImageParts}
 use Rattle.cl_debug.specs.Debugging.{Debugging, at_place, with_break}
 use Rattle.cl_debug.specs.Moves.{MovedBack, MovedOn, RanOn}
 use Rattle.cl_debug.specs.Shown.{HasNoSymbol, IsOutside, IsSymbolOf, ShowsBytes, ShowsHart, ShowsRank}

@@ -16,7 +16,7 @@ use mp_request::Partitions;
 use mp_types::Request;
 use part_box::Settled;
 use part_phase::Phases;
-use rv_image::Link;
+use rv_image_types::Link;
 use std::alloc::{AllocError, Global};
 
 /// What a post waits for that isn't ready.

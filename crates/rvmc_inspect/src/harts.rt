@@ -13,9 +13,9 @@ use cl_state::RankState;
 use mp_hub::HubState;
 use part_box::Settled;
 use rv_hart::{Hart, Mode};
-use rv_image::Symbol;
+use rv_image_types::Symbol;
 use rv_memory::RankMemory;
-use rvmc_places::{is_in_library, put_callers, put_made, put_own_place, put_place, trap_text};
+use rvmc_places::{is_in_library, put_callers, put_made, put_own_place, put_place, put_trap};
 use std::alloc::{AllocError, Global};
 
 /// `rank R hart H `, before how the hart stands.
@@ -103,8 +103,7 @@ fn put_mode(
             text.extend_from_slice(ended.as_bytes())
         }
         Mode::Trapped(cause, at) => {
-            let trapped = trap_text(alloc, setting.memory, hart, cause)?;
-            text.extend_from_slice(trapped.as_bytes())?;
+            put_trap(text, setting.memory, hart, cause)?;
             put_place(text, setting.symbols, at)
         }
     }

@@ -8,7 +8,7 @@ use crate::harts::put_harts;
 use crate::unreceived::put_unreceived;
 use cl_deadlock::deadlock;
 use cl_replay::ClusterState;
-use rv_image::Image;
+use rv_image_types::Image;
 use std::alloc::{AllocError, Global};
 
 /// Adds the lines of the harts of all ranks, in their order.

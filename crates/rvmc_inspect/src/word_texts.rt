@@ -7,7 +7,7 @@ ghost use Rattle.rvmc_inspect.specs.WordTexts.{register_line, regs_text, registe
 
 use rv_decode::Reg;
 use rv_hart::Hart;
-use rv_image::Symbol;
+use rv_image_types::Symbol;
 use rv_memory::RankMemory;
 use rvmc_places::put_calls;
 use rvmc_report::report::{hart_line, put_output};

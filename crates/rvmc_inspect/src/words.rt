@@ -9,7 +9,7 @@ ghost use Rattle.rvmc_places.specs.Places.{line_start, line_starts};
 
 use crate::word_texts::{bytes_text, frames_text, output_text, place_text, regs_text};
 use cl_debug::{DebugFault, Debugger};
-use rv_image::Symbol;
+use rv_image_types::Symbol;
 use rvmc_places::{line_start, line_starts};
 use rvmc_words::{DebugWord, Name, Spot};
 use std::alloc::{AllocError, Global};

@@ -2,5 +2,7 @@
 #![tactic(auto)]
 
 mod line;
+mod texts;
 
 pub use line::{CommandLine, ImageCommand, ParseFault, RecordCommand, Written};
+pub use texts::{SourceSize, SourceSizes};

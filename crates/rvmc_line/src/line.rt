@@ -3,6 +3,7 @@
 ghost use Rattle.std.specs.Prelude.{◌≡◌};
 ghost use Rattle.rvmc_line.specs.declared.line.ParseFault.TheVariants.{Memory};
 
+use crate::texts::SourceSizes;
 use rvmc_starts::Start;
 use rvmc_words::{DebugWords, Numbers};
 use std::alloc::AllocError;
@@ -148,10 +149,12 @@ pub enum RecordCommand {
         to: Option<u64>,
     },
     /// A page that walks the steps forwards and back is written: those from place `from` on, up to place `to` or else to
-    /// the end. Whether there are such places is not known here.
+    /// the end, with the sources whose bytes stand behind the record, in this order. Whether there are such places, and so
+    /// many bytes, is not known here.
     Page {
         from: u64,
         to: Option<u64>,
+        texts: SourceSizes,
     },
     /// It is written how each hart is after the first `at` steps, or else after all, what it waits for,
     /// and which ranks are in a deadlock; with `frames` also which calls led there. Whether there are so

@@ -5,7 +5,7 @@ use Rattle.std.proofs.Common.{refl, sym, ap, ◌∙◌, subst, arith}
 use Rattle.std.proofs.lemmas.Grind.{common_steps}
 use Rattle.std.proofs.lemmas.List.{length-append, length-replicate}
 use Rattle.mp_match.proofs.Rows.{slice_set_length}
-use Rattle.rv_image.specs.declared.images.ImageParts.{ImageParts}
+use Rattle.rv_image_types.specs.declared.images.ImageParts.{ImageParts}
 use Rattle.cl_machine.proofs.Lists.{get-set_other, get-set_same}
 use Rattle.cl_machine.specs.Boxes.{Box, box_number, empty_box, with_made, with_taken}
 use Rattle.cl_machine.specs.Cluster.{CaseOf, Cluster, IsStep}
@@ -17,11 +17,11 @@ use Rattle.cl_state.specs.Rank.{Rank}
 use Rattle.cl_state.specs.declared.asking.Ask.{Ask}
 use Rattle.cl_state.specs.declared.asking.Ask.TheVariants as ask
 use Rattle.cl_trace.specs.declared.events.Kind.{Kind}
-use Rattle.rvmc_tally.proofs.Counting.{more_at, tally_more, tally_none, tally_same}
-use Rattle.rvmc_tally.specs.Adding.{added}
-use Rattle.rvmc_tally.specs.Counts.{IsTally}
-use Rattle.rvmc_tally.specs.Tallies.{capped, count_at}
-use Rattle.rvmc_list.specs.Lines.{box_in}
+use Rattle.rvmc_stats.proofs.Tallying.{more_at, tally_more, tally_none, tally_same}
+use Rattle.rvmc_stats.specs.MoreAt.{added}
+use Rattle.rvmc_stats.specs.Counts.{IsTally}
+use Rattle.rvmc_stats.specs.Tallies.{capped, count_at}
+use Rattle.rvmc_sights.specs.Lines.{box_in}
 use Rattle.rvmc_list.specs.Meeting.{AreOfBoxes, IsCountedTo, behind_box, one_got, one_made, phase_known}
 use Rattle.rvmc_list.specs.Phases.{made_in_box, things_made, phase_asked, phase_in, taken_in_box, things_taken}
 use Rattle.rvmc_list.specs.declared.phases.Phases.{Phases}

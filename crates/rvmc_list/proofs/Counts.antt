@@ -5,7 +5,7 @@ use Rattle.std.specs.List.{filter}
 use Rattle.std.proofs.Common.{sym, ap, ◌∙◌, subst, append_assoc, append-nil, arith}
 use Rattle.std.proofs.lemmas.List.{map-append}
 use Rattle.std.proofs.lemmas.List.Elements.{filter-append}
-use Rattle.rv_image.specs.declared.images.ImageParts.{ImageParts}
+use Rattle.rv_image_types.specs.declared.images.ImageParts.{ImageParts}
 use Rattle.cl_machine.specs.declared.steps.Step.{Step}
 use Rattle.cl_replay.proofs.Runs.{reached_more}
 use Rattle.cl_replay.specs.Replaying.{IsReached}
@@ -16,15 +16,16 @@ use Rattle.rvmc_stats.specs.Counted.{taken_seen}
 use Rattle.rvmc_stats.specs.Tables.{AreOf}
 use Rattle.rvmc_stats.specs.Adding.{Adds}
 use Rattle.rvmc_stats.specs.declared.tables.Tables.{Tables}
+use Rattle.rvmc_sights.specs.Lines.{Sight, sight_of}
+use Rattle.rvmc_sights.proofs.Sights.{IsSeen, seen_at}
 use Rattle.rvmc_list.specs.Folding.{is_of_rank}
-use Rattle.rvmc_list.specs.Lines.{Sight, sight_of}
 use Rattle.rvmc_list.specs.List.{AreSights, last_place}
 use Rattle.rvmc_list.specs.Putting.{IsDone}
 use Rattle.rvmc_list.specs.Stats.{IsStats, IsTablesText, counted, taken_in, text_words}
 use Rattle.rvmc_list.specs.Counting.{AreAllCounted, AreCounted, Counts, CountsStep}
 use Rattle.rvmc_list.specs.declared.folding.Wanted.{Wanted}
 use Rattle.rvmc_list.specs.declared.walk.Done.{Done}
-use Rattle.rvmc_list.proofs.Told.{IsSeen, seen_at, sights_more}
+use Rattle.rvmc_list.proofs.Told.{sights_more}
 
 -- ---- one step
 
@@ -48,11 +49,11 @@ not_done rank old place e new tables done s t s_there t_there s_hart t_hart =
 -- of a rank that is
 pub is_counted : (rank : Option ℕ) (old : ClusterState) (place : ℕ) (e : Step) (new : ClusterState) (tables : Tables)
     (after : Tables) (done : Done) → is_of_rank rank e.rank ≡ true → IsDone old e new (Some done)
-    → Adds tables (taken_seen e done.before.hart done.after) after → CountsStep rank old place e new tables after
+    → Adds tables (taken_seen e done.before.hart done.after.hart) after → CountsStep rank old place e new tables after
 is_counted rank old place e new tables after done of_rank is_done adds s t s_there t_there s_hart t_hart =
     let sight : Sight = sight_of place e (rank_of s) (rank_of t) in
     let same = is_done s t s_there t_there s_hart t_hart place in
-    let one : counted rank (sight ∷ []) ≡ taken_seen e done.before.hart done.after ∷ [] =
+    let one : counted rank (sight ∷ []) ≡ taken_seen e done.before.hart done.after.hart ∷ [] =
     ap (λ b. map taken_in (cond b (sight ∷ []) [])) of_rank ∙ ap (λ x. taken_in x ∷ []) (sym same)
     in
     record {

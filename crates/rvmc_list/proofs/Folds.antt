@@ -2,7 +2,7 @@
 use Rattle.std.specs.Prelude.{ℕ, ◌+◌, ◌≡◌, Bool, true, false, cond, List, [], ◌∷◌, ◌++◌, map, Option, Some, None}
 use Rattle.std.specs.List.{filter}
 use Rattle.std.proofs.Common.{refl, sym, ap, ◌∙◌, append_assoc, arith}
-use Rattle.rv_image.specs.declared.images.Symbol.{Symbol}
+use Rattle.rv_image_types.specs.declared.images.Symbol.{Symbol}
 use Rattle.rvmc_list.specs.Phases.{Scene}
 use Rattle.rvmc_list.specs.Folding.{Line, folded_at_front, is_wanted, scene_line, lines_of, lines_text, folded_text}
 use Rattle.rvmc_list.specs.Pieces.{behind, closing, is_folded, opened, opened_by, piece, piece_of}

@@ -2,8 +2,8 @@
 use Rattle.std.specs.Prelude.{ℕ, suc, ◌+◌, ◌-◌, ◌<◌, ◌≡◌, List, [], ◌∷◌, ◌++◌, length, Option, Some, None}
 use Rattle.std.proofs.Common.{refl, sym, ap, ◌∙◌, subst, append_assoc, append-nil, arith}
 use Rattle.std.proofs.lemmas.List.{flat_map_more}
-use Rattle.rv_image.specs.declared.images.Symbol.{Symbol}
-use Rattle.rvmc_tally.specs.Hottest.{AreHottest, IsNextBelow}
+use Rattle.rv_image_types.specs.declared.images.Symbol.{Symbol}
+use Rattle.rvmc_stats.specs.Hottest.{AreHottest, IsNextBelow}
 use Rattle.rvmc_list.specs.Places.{HasPlaceLines, place_line}
 use Rattle.rvmc_list.specs.Placing.{ArePlaced}
 

@@ -6,8 +6,7 @@ pub mod Counts
 pub mod Hottest
 pub mod CallNames
 pub mod PutSteps
-pub mod Hex
 pub mod KeptOnes
-pub mod Aheads
+pub mod LineParts
 pub mod Plains
 pub mod Written

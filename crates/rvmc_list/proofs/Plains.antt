@@ -3,36 +3,38 @@ use Rattle.std.specs.Prelude.{ℕ, ◌≡◌, ◌&&◌, Bool, true, false, cond,
 use Rattle.std.proofs.Common.{refl, sym, ap, ◌∙◌, append_assoc}
 use Rattle.std.proofs.lemmas.Option.{same_Some}
 use Rattle.rv_hart.specs.State.{State}
-use Rattle.rv_image.specs.declared.images.Symbol.{Symbol}
+use Rattle.rv_image_types.specs.declared.images.Symbol.{Symbol}
 use Rattle.cl_machine.specs.declared.steps.Step.{Step}
 use Rattle.cl_replay.specs.declared.states.ClusterState.{ClusterState}
 use Rattle.cl_state.specs.Room.{rank_of}
 use Rattle.cl_state.specs.declared.state.RankState.{RankState}
 use Rattle.cl_trace.specs.declared.events.Kind.{Kind}
-use Rattle.rvmc_list.specs.Ahead.{PutsPlain, ahead_in, front_of, rest_text}
+use Rattle.rvmc_sights.specs.Ahead.{rest_text}
+use Rattle.rvmc_sights.specs.Lines.{hart_of, sight_of}
+use Rattle.rvmc_sights.specs.declared.ahead.Ahead.{Ahead}
+use Rattle.rvmc_list.specs.Fronts.{PutsPlain, ahead_in, front_of}
 use Rattle.rvmc_list.specs.Folding.{is_plain, is_vain, is_wanted}
-use Rattle.rvmc_list.specs.Lines.{hart_of, sight_of}
 use Rattle.rvmc_list.specs.Phases.{Scene, scene_text}
 use Rattle.rvmc_list.specs.Pieces.{closing, is_folded, opened, piece}
-use Rattle.rvmc_list.specs.Putting.{IsHartAfter, Puts, PutsPlainLine}
-use Rattle.rvmc_list.specs.declared.ahead.Ahead.{Ahead}
+use Rattle.rvmc_list.specs.Putting.{IsHartAfter, IsOverflowAfter, Puts, PutsPlainLine}
 use Rattle.rvmc_list.specs.declared.folding.Wanted.{Wanted}
-use Rattle.rvmc_list.proofs.Aheads.{plain_is}
+use Rattle.rvmc_list.proofs.LineParts.{plain_is}
 
 -- what was put before a step and behind it is its sight
 pub plain_put : (symbols : List Symbol) (old new : ClusterState) (place : ℕ) (e : Step) (own : RankState)
-    (ahead : Option Ahead) (after : State) (text front whole : List ℕ) → is_plain e.kind ≡ true
+    (ahead : Option Ahead) (after : State) (overflow : Bool) (text front whole : List ℕ) → is_plain e.kind ≡ true
     → slice_get old.ranks.items e.rank ≡ Some own → front ≡ text ++ front_of symbols place e (rank_of own)
-    → ahead ≡ ahead_in e (rank_of own) → IsHartAfter new e (Some after)
-    → whole ≡ front ++ rest_text ahead after after.mode → PutsPlain symbols old place e new text whole
-plain_put symbols old new place e own ahead after text front whole plain there front_is ahead_is after_is whole_is s t s_there t_there s_hart t_hart =
+    → ahead ≡ ahead_in e (rank_of own) → IsHartAfter new e (Some after) → IsOverflowAfter new e overflow
+    → whole ≡ front ++ rest_text ahead after overflow after.mode → PutsPlain symbols old place e new text whole
+plain_put symbols old new place e own ahead after overflow text front whole plain there front_is ahead_is after_is over_is whole_is s t s_there t_there s_hart t_hart =
     let own_is = same_Some own s (sym there ∙ s_there) in
     let hart_is = same_Some after (hart_of e (rank_of t)) (after_is t t_there t_hart) in
     let sight = sight_of place e (rank_of s) (rank_of t) in
-    let rest = rest_text (ahead_in e (rank_of s)) sight.after sight.after.mode in
+    let rest = rest_text (ahead_in e (rank_of s)) sight.after sight.overflow sight.after.mode in
     whole_is
-    ∙ ap (λ (h : State). front ++ rest_text ahead h h.mode) hart_is
-    ∙ ap (λ (a : Option Ahead). front ++ rest_text a sight.after sight.after.mode)
+    ∙ ap (λ (h : State). front ++ rest_text ahead h overflow h.mode) hart_is
+    ∙ ap (λ (b : Bool). front ++ rest_text ahead sight.after b sight.after.mode) (over_is t t_there t_hart)
+    ∙ ap (λ (a : Option Ahead). front ++ rest_text a sight.after sight.overflow sight.after.mode)
     (ahead_is ∙ ap (λ (r : RankState). ahead_in e (rank_of r)) own_is)
     ∙ ap (λ (f : List ℕ). f ++ rest) (front_is ∙ ap (λ (r : RankState). text ++ front_of symbols place e (rank_of r)) own_is)
     ∙ append_assoc text (front_of symbols place e (rank_of s)) rest

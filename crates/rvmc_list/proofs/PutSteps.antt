@@ -1,16 +1,16 @@
 -- A step that was done is put.
 use Rattle.std.specs.Prelude.{ℕ, ◌≡◌, true, cond, List, [], ◌++◌, Option, Some}
 use Rattle.std.proofs.Common.{sym, ap, ◌∙◌}
-use Rattle.rv_image.specs.declared.images.Symbol.{Symbol}
+use Rattle.rv_image_types.specs.declared.images.Symbol.{Symbol}
 use Rattle.cl_machine.specs.declared.steps.Step.{Step}
 use Rattle.cl_replay.specs.declared.states.ClusterState.{ClusterState}
 use Rattle.cl_state.specs.Room.{rank_of}
+use Rattle.rvmc_sights.specs.Lines.{Sight, sight_of}
+use Rattle.rvmc_sights.specs.Seen.{seen}
 use Rattle.rvmc_list.specs.Folding.{is_wanted, scene_line}
-use Rattle.rvmc_list.specs.Lines.{Sight, sight_of}
 use Rattle.rvmc_list.specs.Phases.{Scene}
 use Rattle.rvmc_list.specs.Pieces.{is_folded, opened, piece}
 use Rattle.rvmc_list.specs.Putting.{IsDone, Puts}
-use Rattle.rvmc_list.specs.Seen.{seen}
 use Rattle.rvmc_list.specs.declared.folding.Wanted.{Wanted}
 use Rattle.rvmc_list.specs.declared.walk.Done.{Done}
 

@@ -6,9 +6,9 @@ use Rattle.std.proofs.Common.{refl, sym, ap, ◌∙◌, subst, append_assoc, app
 use Rattle.std.proofs.KnownBytes.{Appends-nil, Appends-trans, Keeps-refl}
 use Rattle.std.proofs.lemmas.Option.{slice_get_within}
 use lib.Seq.{take-append_seam}
-use Rattle.rv_image.specs.declared.images.ImageParts.{ImageParts}
-use Rattle.rv_image.specs.declared.images.Symbol.{Symbol}
-use Rattle.cl_debug.proofs.Ranks.{run_sized}
+use Rattle.rv_image_types.specs.declared.images.ImageParts.{ImageParts}
+use Rattle.rv_image_types.specs.declared.images.Symbol.{Symbol}
+use Rattle.rvmc_sights.proofs.Below.{run_sized}
 use Rattle.cl_machine.proofs.Tables.{run_less, run_more}
 use Rattle.cl_machine.specs.Cluster.{Cluster, IsRun, IsStep, loaded_cluster}
 use Rattle.cl_machine.specs.declared.steps.Step.{Step}
@@ -17,8 +17,9 @@ use Rattle.cl_replay.specs.Replays.{IsRunUpTo}
 use Rattle.cl_replay.specs.Steps.{Leads}
 use Rattle.cl_replay.specs.declared.states.ClusterState.{ClusterState}
 use Rattle.cl_state.specs.Asked.{asked}
+use Rattle.rvmc_sights.specs.Lines.{sight_of}
+use Rattle.rvmc_sights.proofs.Sights.{is_there}
 use Rattle.rvmc_list.specs.Folding.{lines_of, scenes_text}
-use Rattle.rvmc_list.specs.Lines.{sight_of}
 use Rattle.rvmc_list.specs.List.{AreScenes, IsSceneAt, last_place}
 use Rattle.rvmc_list.specs.Meeting.{IsCountedTo, IsMet}
 use Rattle.rvmc_list.specs.Phases.{Scene, phase_in}
@@ -29,7 +30,7 @@ use Rattle.rvmc_list.specs.declared.folding.Wanted.{Wanted}
 use Rattle.rvmc_list.specs.declared.phases.Phases.{Phases}
 use Rattle.rvmc_list.specs.declared.walk.ListFault.{ListFault}
 use Rattle.rvmc_list.specs.declared.walk.ListFault.TheVariants as fault
-use Rattle.rvmc_list.proofs.Told.{is_there, put_more, put_none, scenes_more, step_fault, told_all}
+use Rattle.rvmc_list.proofs.Told.{put_more, put_none, scenes_more, step_fault, told_all}
 
 -- ---- each step of a run has a scene
 

@@ -1,6 +1,6 @@
 -- Steps that are counted one after another.
 use Rattle.std.specs.Prelude.{ℕ, ◌≡◌, ◌<◌, List, [], ◌∷◌, ◌++◌, length, slice_get, Option, Some}
-use Rattle.rv_image.specs.declared.images.ImageParts.{ImageParts}
+use Rattle.rv_image_types.specs.declared.images.ImageParts.{ImageParts}
 use Rattle.cl_machine.specs.declared.steps.Step.{Step}
 use Rattle.cl_replay.specs.Replaying.{IsReached}
 use Rattle.cl_replay.specs.declared.states.ClusterState.{ClusterState}
@@ -9,7 +9,7 @@ use Rattle.cl_state.specs.declared.state.RankState.{RankState}
 use Rattle.rvmc_stats.specs.Counted.{Taken}
 use Rattle.rvmc_stats.specs.Tables.{AreOf}
 use Rattle.rvmc_stats.specs.declared.tables.Tables.{Tables}
-use Rattle.rvmc_list.specs.Lines.{Sight, sight_of}
+use Rattle.rvmc_sights.specs.Lines.{Sight, sight_of}
 use Rattle.rvmc_list.specs.List.{AreSights}
 use Rattle.rvmc_list.specs.Stats.{counted}
 use Rattle.rvmc_list.specs.declared.folding.Wanted.{Wanted}

@@ -1,9 +1,11 @@
 -- The texts of instructions, each kept for the next time that it is done.
-use Rattle.std.specs.Prelude.{ℕ, ◌≡◌, List, ◌++◌, codes, Option, Some, None, slice_get}
+use Rattle.std.specs.Prelude.{ℕ, ◌≡◌, false, List, ◌++◌, codes, Option, Some, None, slice_get}
 use Rattle.rv_decode.specs.Decoded.{decoded}
 use Rattle.rv_decode.specs.Text.{instr_text}
 use Rattle.rv_decode.specs.declared.instruction.Instr.{Instr}
-use Rattle.rv_image.specs.declared.images.Symbol.{Symbol}
+use Rattle.rv_image_types.specs.declared.images.Symbol.{Symbol}
+use Rattle.rv_memory.specs.declared.fault.Cause.TheVariants.{IllegalInstruction}
+use Rattle.rvmc_places.specs.Causes.{trapped_text}
 use Rattle.rvmc_places.specs.Places.{hex_text, named_address_text}
 use Rattle.rvmc_list.specs.declared.kept.Kept.{Kept}
 use Rattle.rvmc_list.specs.declared.kept.Texts.{Texts}
@@ -17,7 +19,7 @@ abbrev pub word_spot : List Symbol → ℕ → ℕ → Option Instr → List ℕ
 word_spot symbols at word (Some i) = spot_text symbols at i
 word_spot symbols at word None =
     named_address_text symbols at
-    ++ (codes ": " ++ (codes ".word " ++ (hex_text word ++ codes " traps: illegal instruction")))
+    ++ (codes ": " ++ (codes ".word " ++ (hex_text word ++ (codes " " ++ trapped_text false IllegalInstruction))))
 
 -- the instruction is that of the word, and the text is that of the address and of it
 pub record IsKept (symbols : List Symbol) (kept : Kept) : Type 0 where

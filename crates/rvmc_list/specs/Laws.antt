@@ -2,7 +2,7 @@
 use Rattle.std.specs.Prelude.{ℕ, ◌≡◌, ◌⊎◌, true, false, List, [], ◌∷◌, ◌++◌, length}
 use Rattle.std.specs.List.{AllByRecursion, flat_map}
 use Rattle.cl_calls.specs.declared.calls.Call.{Call}
-use Rattle.rvmc_inspect.specs.Texts.{call_name}
+use Rattle.rvmc_sights.specs.Below.{call_name}
 use Rattle.rvmc_stats.specs.Counted.{call_number}
 use Rattle.rvmc_stats.specs.Names.{named_call}
 use Rattle.rvmc_list.specs.Folding.{Line, lines_text, folded_text}

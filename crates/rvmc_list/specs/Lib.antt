@@ -1,10 +1,5 @@
-pub mod Arguments
-pub mod Instructions
-pub mod Gave
-pub mod Lines
 pub mod Phases
 pub mod Meeting
-pub mod Seen
 pub mod Folding
 pub mod Laws
 pub mod List
@@ -15,7 +10,6 @@ pub mod Placing
 pub mod Stats
 pub mod Counting
 pub mod Worked
-pub mod Rows
 pub mod Keeping
-pub mod Ahead
+pub mod Fronts
 pub mod Written

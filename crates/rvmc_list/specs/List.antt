@@ -1,15 +1,14 @@
 -- A record in words.
 use Rattle.std.specs.Prelude.{ℕ, ◌≡◌, ◌<◌, ◌+◌, ◌-◌, ◌||◌, nat_le, nat_lt, Bool, true, false, max, List, length, slice_get}
-use Rattle.std.specs.Prelude.{take, Option, Some, None}
+use Rattle.std.specs.Prelude.{Option, Some, None}
 use Rattle.std.specs.Option.{unwrap_or}
-use Rattle.rv_image.specs.declared.images.ImageParts.{ImageParts}
+use Rattle.rv_image_types.specs.declared.images.ImageParts.{ImageParts}
 use Rattle.cl_state.specs.Asked.{asked}
-use Rattle.cl_state.specs.Rank.{Rank}
-use Rattle.cl_machine.specs.Cluster.{Cluster, IsRun, IsStep, loaded_cluster}
 use Rattle.cl_machine.specs.declared.steps.Step.{Step}
 use Rattle.cl_replay.specs.InnerReplaying.{BreaksAt}
+use Rattle.rvmc_sights.specs.Lines.{Sight}
+use Rattle.rvmc_sights.specs.Sights.{IsSightAt}
 use Rattle.rvmc_list.specs.Folding.{scenes_text}
-use Rattle.rvmc_list.specs.Lines.{Sight, sight_of}
 use Rattle.rvmc_list.specs.Phases.{Scene, phase_in}
 use Rattle.rvmc_list.specs.declared.folding.Wanted.{Wanted}
 use Rattle.rvmc_list.specs.declared.walk.ListFault.{ListFault}
@@ -17,26 +16,12 @@ use Rattle.rvmc_list.specs.declared.walk.ListFault.TheVariants as fault
 
 -- ---- what is seen of a record
 
--- step n of a run of the image, and its rank in the clusters before and after it
-pub record IsSightAt (image : ImageParts) (steps : List Step) (n : ℕ) (sight : Sight) : Type 0 where
-  pub old : Cluster
-  pub run : IsRun (loaded_cluster image) (take n steps) old
-  pub step : Step
-  pub there : slice_get steps n ≡ Some step
-  pub new : Cluster
-  pub leads : IsStep old step new
-  pub before : Rank
-  pub after : Rank
-  pub before_there : slice_get old.ranks step.rank ≡ Some before
-  pub after_there : slice_get new.ranks step.rank ≡ Some after
-  pub is : sight ≡ sight_of n step before after
-
--- those of the steps from one place to another, in order
+-- of the steps from one place to another, in order
 pub record AreSights (image : ImageParts) (steps : List Step) (from to : ℕ) (sights : List Sight) : Type 0 where
   pub count : length sights ≡ to - from
   pub each : (k : ℕ) (sight : Sight) → slice_get sights k ≡ Some sight → IsSightAt image steps (from + k) sight
 
--- and with the phase of the box that it asks, in the cluster before it
+-- of step n, with the phase of the box that it asks, in the cluster before it
 pub record IsSceneAt (image : ImageParts) (steps : List Step) (n : ℕ) (scene : Scene) : Type 0 where
   pub sight : IsSightAt image steps n scene.sight
   pub phase : scene.phase ≡ phase_in sight.step.kind sight.old.boxes (asked sight.before sight.step.hart)

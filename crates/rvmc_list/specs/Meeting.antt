@@ -9,11 +9,11 @@ use Rattle.cl_state.specs.Room.{rank_of}
 use Rattle.cl_state.specs.declared.asking.Ask.{Ask}
 use Rattle.cl_state.specs.declared.state.RankState.{RankState}
 use Rattle.cl_trace.specs.declared.events.Kind.{Kind}
-use Rattle.rv_image.specs.declared.images.ImageParts.{ImageParts}
-use Rattle.rvmc_tally.specs.Adding.{added}
-use Rattle.rvmc_tally.specs.Counts.{IsTally}
-use Rattle.rvmc_tally.specs.Tallies.{count_at}
-use Rattle.rvmc_list.specs.Lines.{box_in}
+use Rattle.rv_image_types.specs.declared.images.ImageParts.{ImageParts}
+use Rattle.rvmc_stats.specs.MoreAt.{added}
+use Rattle.rvmc_stats.specs.Counts.{IsTally}
+use Rattle.rvmc_stats.specs.Tallies.{count_at}
+use Rattle.rvmc_sights.specs.Lines.{box_in}
 use Rattle.rvmc_list.specs.Phases.{made_in_box, phase_met, taken_in_box}
 use Rattle.rvmc_list.specs.declared.phases.Phases.{Phases}
 

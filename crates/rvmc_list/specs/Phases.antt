@@ -2,13 +2,13 @@
 -- the receiver takes it there (MPI 4.1, chapter 4.2).
 use Rattle.std.specs.Prelude.{ℕ, ◌+◌, List, [], ◌++◌, codes, length, slice_get, Option, Some, None}
 use Rattle.std.specs.Fmt.{decimal}
-use Rattle.rv_image.specs.declared.images.Symbol.{Symbol}
+use Rattle.rv_image_types.specs.declared.images.Symbol.{Symbol}
 use Rattle.cl_machine.specs.Boxes.{Box, box_number}
 use Rattle.cl_state.specs.declared.asking.Ask.{Ask}
 use Rattle.cl_state.specs.declared.asking.Ask.TheVariants as ask
 use Rattle.cl_trace.specs.declared.events.Kind.{Kind}
-use Rattle.rvmc_tally.specs.Tallies.{capped}
-use Rattle.rvmc_list.specs.Lines.{Sight, sight_text}
+use Rattle.rvmc_stats.specs.Tallies.{capped}
+use Rattle.rvmc_sights.specs.Lines.{Sight, sight_text}
 
 -- ---- how far a box is
 

@@ -2,10 +2,10 @@
 use Rattle.std.specs.Prelude.{ℕ, ◌≡◌, ◌*◌, List, ◌++◌, codes, length, None}
 use Rattle.std.specs.Fmt.{decimal}
 use Rattle.std.specs.List.{flat_map}
-use Rattle.rv_image.specs.declared.images.Symbol.{Symbol}
+use Rattle.rv_image_types.specs.declared.images.Symbol.{Symbol}
 use Rattle.rvmc_places.specs.Places.{named_address_text}
-use Rattle.rvmc_tally.specs.Hottest.{AreHottest}
-use Rattle.rvmc_tally.specs.Tallies.{count_at}
+use Rattle.rvmc_stats.specs.Hottest.{AreHottest}
+use Rattle.rvmc_stats.specs.Tallies.{count_at}
 
 -- the turns at a word of the text, its address, and the symbol nearest before it
 unfoldable pub place_line : List Symbol → List ℕ → ℕ → List ℕ

@@ -1,7 +1,7 @@
 -- Places that are told one after another.
 use Rattle.std.specs.Prelude.{ℕ, ◌≡◌, ◌-◌, List, ◌++◌, length, Option, None}
-use Rattle.rv_image.specs.declared.images.Symbol.{Symbol}
-use Rattle.rvmc_tally.specs.Hottest.{AreHottest}
+use Rattle.rv_image_types.specs.declared.images.Symbol.{Symbol}
+use Rattle.rvmc_stats.specs.Hottest.{AreHottest}
 use Rattle.rvmc_list.specs.Places.{place_lines}
 
 -- so many of them do, the last of which is this one

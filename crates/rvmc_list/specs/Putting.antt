@@ -1,8 +1,8 @@
 -- How the text of a record is put together, one step after another.
-use Rattle.std.specs.Prelude.{ℕ, ◌≡◌, ◌<◌, ◌++◌, ◌∷◌, [], List, Option, None, Some, false, length, slice_get}
+use Rattle.std.specs.Prelude.{ℕ, ◌≡◌, ◌<◌, ◌++◌, ◌∷◌, [], Bool, List, Option, None, Some, false, length, slice_get}
 use Rattle.rv_hart.specs.State.{State}
-use Rattle.rv_image.specs.declared.images.ImageParts.{ImageParts}
-use Rattle.rv_image.specs.declared.images.Symbol.{Symbol}
+use Rattle.rv_image_types.specs.declared.images.ImageParts.{ImageParts}
+use Rattle.rv_image_types.specs.declared.images.Symbol.{Symbol}
 use Rattle.cl_machine.specs.declared.steps.Step.{Step}
 use Rattle.cl_replay.specs.InnerReplaying.{BreaksAt}
 use Rattle.cl_replay.specs.Replaying.{IsReached}
@@ -10,15 +10,15 @@ use Rattle.cl_replay.specs.Steps.{LeadsNowhere}
 use Rattle.cl_replay.specs.declared.states.ClusterState.{ClusterState}
 use Rattle.cl_state.specs.Room.{rank_of}
 use Rattle.cl_state.specs.declared.state.RankState.{RankState}
+use Rattle.rvmc_sights.specs.Lines.{hart_of, overflow_of, sight_of}
+use Rattle.rvmc_sights.specs.Seen.{IsSeenBefore, seen}
+use Rattle.rvmc_sights.specs.declared.lines.Seen.{Seen}
 use Rattle.rvmc_list.specs.Folding.{Line, is_wanted, scene_line, lines_of, scenes_text}
-use Rattle.rvmc_list.specs.Lines.{hart_of, sight_of}
 use Rattle.rvmc_list.specs.Phases.{Scene, scene_text}
 use Rattle.rvmc_list.specs.Meeting.{IsCountedTo}
-use Rattle.rvmc_list.specs.Seen.{IsSeenBefore, seen}
 use Rattle.rvmc_list.specs.List.{AreScenes, is_past, last_place, names_no_rank}
 use Rattle.rvmc_list.specs.Pieces.{behind, closing, opened_by, piece_of}
 use Rattle.rvmc_list.specs.declared.folding.Wanted.{Wanted}
-use Rattle.rvmc_list.specs.declared.lines.Seen.{Seen}
 use Rattle.rvmc_list.specs.declared.phases.Phases.{Phases}
 use Rattle.rvmc_list.specs.declared.walk.Done.{Done}
 use Rattle.rvmc_list.specs.declared.walk.ListFault.{ListFault}
@@ -56,6 +56,12 @@ abbrev pub IsHartAfter : ClusterState → Step → Option State → Type 0
 IsHartAfter state e hart =
     (t : RankState) → slice_get state.ranks.items e.rank ≡ Some t → e.hart < length t.harts.items
     → hart ≡ Some (hart_of e (rank_of t))
+
+-- whether it has trapped because its stack is full
+abbrev pub IsOverflowAfter : ClusterState → Step → Bool → Type 0
+IsOverflowAfter state e overflow =
+    (t : RankState) → slice_get state.ranks.items e.rank ≡ Some t → e.hart < length t.harts.items
+    → overflow ≡ overflow_of e (rank_of t)
 
 -- what was seen of a step that was done, whatever its rank was before and after it
 abbrev pub IsDoneAs : Step → RankState → RankState → Option Done → Type 0

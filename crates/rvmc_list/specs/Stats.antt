@@ -1,15 +1,15 @@
 -- A record in tables.
 use Rattle.std.specs.Prelude.{ℕ, ◌/◌, List, ◌++◌, length, map, Option}
 use Rattle.std.specs.List.{filter}
-use Rattle.rv_image.specs.declared.images.ImageParts.{ImageParts}
-use Rattle.rv_image.specs.declared.images.Symbol.{Symbol}
+use Rattle.rv_image_types.specs.declared.images.ImageParts.{ImageParts}
+use Rattle.rv_image_types.specs.declared.images.Symbol.{Symbol}
 use Rattle.cl_machine.specs.declared.steps.Step.{Step}
 use Rattle.rvmc_stats.specs.Counted.{Taken, taken_seen}
 use Rattle.rvmc_stats.specs.Tables.{AreOf}
 use Rattle.rvmc_stats.specs.Texts.{calls_table, messages_table, turns_table}
 use Rattle.rvmc_stats.specs.declared.tables.Tables.{Tables}
+use Rattle.rvmc_sights.specs.Lines.{Sight}
 use Rattle.rvmc_list.specs.Folding.{is_of_rank}
-use Rattle.rvmc_list.specs.Lines.{Sight}
 use Rattle.rvmc_list.specs.List.{AreSights, last_place}
 use Rattle.rvmc_list.specs.Places.{HasPlaces}
 use Rattle.rvmc_list.specs.declared.folding.Wanted.{Wanted}

@@ -1,13 +1,13 @@
 -- Worked lines: what stands in each is the very text.
-use Rattle.std.specs.Prelude.{ℕ, ◌≡◌, List, [], ◌∷◌, ◌++◌, codes, map, refl, true, false, Option, Some, None}
+use Rattle.std.specs.Prelude.{ℕ, ◌≡◌, List, [], ◌∷◌, ◌++◌, codes, map, refl, Bool, true, false, Option, Some, None}
 use Rattle.std.specs.Fmt.{digits}
 use Rattle.rv_decode.specs.Decoded.{decoded}
 use Rattle.rv_hart.specs.Results.{is_taken}
 use Rattle.rv_hart.specs.State.{State, fresh, in_mode, write}
 use Rattle.rv_hart.specs.declared.state.Mode.TheVariants.{Trapped, Waiting}
 use Rattle.rv_hart.specs.declared.state.Wait.TheVariants.{Again}
-use Rattle.rv_image.specs.declared.images.Symbol.{Symbol}
-use Rattle.rv_memory.specs.declared.fault.Cause.TheVariants.{LoadMisaligned}
+use Rattle.rv_image_types.specs.declared.images.Symbol.{Symbol}
+use Rattle.rv_memory.specs.declared.fault.Cause.TheVariants.{LoadMisaligned, StoreAccess}
 use Rattle.mp_types.specs.declared.messages.Message.{Message}
 use Rattle.mp_types.specs.declared.replies.Reply.TheVariants as reply
 use Rattle.cl_machine.specs.Boxes.{Box, Thing, empty_box}
@@ -16,8 +16,8 @@ use Rattle.cl_state.specs.declared.asking.Ask.TheVariants as ask
 use Rattle.cl_trace.specs.declared.events.Kind.{Kind}
 use Rattle.rvmc_places.specs.Names.{line_named}
 use Rattle.rvmc_places.specs.Places.{line_at, named_address_text, nearest_of, place_name}
+use Rattle.rvmc_sights.specs.Lines.{sight_text}
 use Rattle.rvmc_list.specs.Folding.{scenes_text}
-use Rattle.rvmc_list.specs.Lines.{sight_text}
 use Rattle.rvmc_list.specs.Phases.{Scene, phase_in}
 use Rattle.rvmc_list.specs.declared.folding.Wanted.{Wanted}
 
@@ -34,8 +34,8 @@ abbrev pub two_symbols : List Symbol
 two_symbols = record { address = 0; name = codes "go" } ∷ record { address = 0x18; name = codes "take" } ∷ []
 
 -- step 7, of hart 1 of rank 2 at stamp 9
-abbrev pub scene_of : Kind → State → Option ℕ → Option (ℕ × ℕ) → State → Option ℕ → Scene
-scene_of kind before word box after phase = record {
+abbrev pub scene_with : Bool → Kind → State → Option ℕ → Option (ℕ × ℕ) → State → Option ℕ → Scene
+scene_with overflow kind before word box after phase = record {
   sight = record {
     place = 7;
     step = record { rank = 2; hart = 1; stamp = 9; kind = kind };
@@ -43,9 +43,13 @@ scene_of kind before word box after phase = record {
     word = word;
     box = box;
     after = after;
+    overflow = overflow;
   };
   phase = phase;
 }
+
+abbrev pub scene_of : Kind → State → Option ℕ → Option (ℕ × ℕ) → State → Option ℕ → Scene
+scene_of = scene_with false
 
 abbrev pub plain_scene : State → ℕ → State → Scene
 plain_scene before word after = scene_of Kind.Plain before (Some word) None after None
@@ -93,15 +97,28 @@ pub a_branch_not_taken : scenes_text [] all_steps
 unfolding sight_text named_address_text place_name line_at nearest_of line_named decoded digits is_taken
 a_branch_not_taken = refl
 
--- a trap by its name, and no value; and a word that is no instruction
+-- a trap by its number and its name, and no value; the same of a store that fails because the stack is full; and a word
+-- that is no instruction
 pub a_trap : scenes_text [] all_steps
     (plain_scene (fresh 8) 0x00103283 (in_mode (fresh 8) (Trapped LoadMisaligned 8)) ∷ [])
-    ≡ codes "7 rank 2 hart 1 stamp 9 at 0x8: ld x5, 1(x0) traps: misaligned load\n"
+    ≡ codes "7 rank 2 hart 1 stamp 9 at 0x8: ld x5, 1(x0) trapped 4 (misaligned load)\n"
 unfolding sight_text named_address_text place_name line_at nearest_of line_named decoded digits
 a_trap = refl
 
+pub a_store_outside_memory : scenes_text [] all_steps
+    (plain_scene (fresh 8) 0xfe513c23 (in_mode (fresh 8) (Trapped StoreAccess 8)) ∷ [])
+    ≡ codes "7 rank 2 hart 1 stamp 9 at 0x8: sd x5, -8(x2) trapped 7 (store outside memory or into the text)\n"
+unfolding sight_text named_address_text place_name line_at nearest_of line_named decoded digits
+a_store_outside_memory = refl
+
+pub a_full_stack : scenes_text [] all_steps
+    (scene_with true Kind.Plain (fresh 8) (Some 0xfe513c23) None (in_mode (fresh 8) (Trapped StoreAccess 8)) None ∷ [])
+    ≡ codes "7 rank 2 hart 1 stamp 9 at 0x8: sd x5, -8(x2) trapped 7 (stack overflow)\n"
+unfolding sight_text named_address_text place_name line_at nearest_of line_named decoded digits
+a_full_stack = refl
+
 pub an_illegal_word : scenes_text [] all_steps (plain_scene (fresh 8) 0xb (fresh 8) ∷ [])
-    ≡ codes "7 rank 2 hart 1 stamp 9 at 0x8: .word 0xb traps: illegal instruction\n"
+    ≡ codes "7 rank 2 hart 1 stamp 9 at 0x8: .word 0xb trapped 2 (illegal instruction)\n"
 unfolding sight_text named_address_text place_name line_at nearest_of line_named decoded digits
 an_illegal_word = refl
 

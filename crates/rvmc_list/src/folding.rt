@@ -5,16 +5,15 @@ ghost use Rattle.cl_machine.specs.SameSteps.{kind_seen};
 ghost use Rattle.rvmc_list.specs.Folding.{is_of_rank as is_of_rank_of, is_vain as is_vain_of, is_wanted as is_wanted_of};
 ghost use Rattle.rvmc_list.specs.Folding.{scene_line};
 ghost use Rattle.rvmc_list.specs.Phases.{scene_text};
-ghost use Rattle.rvmc_list.specs.Seen.{seen};
+ghost use Rattle.rvmc_sights.specs.Seen.{seen};
 ghost use Rattle.rvmc_list.specs.Pieces.{IsWithin, closing, is_folded as is_folded_of, opened, piece};
 
-use crate::lines::{Seen, put_sight};
 use crate::phases::put_phase;
 use cl_machine::{KindRef, Step};
 use cl_trace::Bare;
 use mp_types::Reply;
-use rv_hart::Hart;
-use rv_image::Symbol;
+use rv_image_types::Symbol;
+use rvmc_sights::{After, Seen, put_sight};
 use std::io;
 use std::io::Write;
 
@@ -83,14 +82,14 @@ pub(crate) fn close(text: &mut Vec<u8>, begun: Option<u64>) -> io::Result<()>
     Ok(())
 }
 
-/// A step that is told: where it stands, what was seen of it before it was done, its hart after it, and the phase of the
-/// box that it asked.
+/// A step that is told: where it stands, what was seen of it before and after it was done, and the phase of the box that it
+/// asked.
 #[derive(Clone, Copy, Drop)]
 pub(crate) struct Told<'a> {
     pub(crate) place: u64,
     pub(crate) step: &'a Step,
     pub(crate) before: &'a Seen,
-    pub(crate) after: &'a Hart,
+    pub(crate) after: &'a After,
     pub(crate) phase: Option<u64>,
 }
 

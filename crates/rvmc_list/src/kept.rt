@@ -3,12 +3,13 @@
 ghost use Rattle.std.specs.Prelude.{◌≡◌, ◌++◌, ◌<◌, IfOk, List, None, OnOk};
 ghost use Rattle.std.specs.Option.{option_copied};
 ghost use Rattle.rv_decode.specs.Decoded.{decoded};
-ghost use Rattle.rv_image.specs.declared.images.Symbol.{Symbol as SymbolOf};
+ghost use Rattle.rv_image_types.specs.declared.images.Symbol.{Symbol as SymbolOf};
 ghost use Rattle.rvmc_list.specs.Keeping.{AreKept, IsFound, IsKept, spot_text, word_spot};
 
 use rv_decode::{Instr, decode};
-use rv_image::Symbol;
-use rvmc_places::put_place;
+use rv_image_types::Symbol;
+use rv_memory::Cause;
+use rvmc_places::{put_place, put_trapped};
 use std::alloc::{AllocError, Global};
 use std::io;
 use std::io::Write;
@@ -94,7 +95,9 @@ fn put_no_instruction(text: &mut Vec<u8>, symbols: &[Symbol], at: u64, word: u32
     ensures { OnOk result (text.new.items ≡ text.old.items ++ word_spot symbols.now at word (decoded word)) }
 {
     put_place(text, symbols, at)?;
-    write!(text, ": .word 0x{word:x} traps: illegal instruction")
+    write!(text, ": .word 0x{word:x} ")?;
+    put_trapped(text, false, Cause::IllegalInstruction)?;
+    Ok(())
 }
 
 /// Adds a word behind its address, and keeps the text of its instruction.

@@ -1,28 +1,21 @@
 //! A record in words: a line for each of its steps, or tables of their numbers.
 //!
-//! The meaning stands in specs/: what is seen of a step, its line, which lines are told, the text of a record, and its
-//! tables.
+//! The meaning stands in specs/: which lines are told, the text of a record, and its tables. What a line has is the matter of
+//! rvmc_sights.
 #![tactic(auto)]
 
-mod ahead;
-mod arguments;
 mod folding;
-mod gave;
-mod instructions;
+mod fronts;
 mod kept;
 pub mod laws;
-mod lines;
 mod listing;
 mod phases;
 mod places;
 mod plain;
-mod rows;
 mod tables;
 mod walk;
 
 pub use folding::Wanted;
-pub use gave::{BoxNumber, is_refused};
-pub use lines::{Seen, box_in, look, put_sight};
 pub use listing::list;
 pub use tables::stats;
 pub use walk::ListFault;

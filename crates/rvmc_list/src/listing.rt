@@ -18,7 +18,7 @@ use crate::plain::{is_plain, put_plain_line};
 use crate::walk::{ListFault, advance, checked, do_step, state_at};
 use cl_machine::Step;
 use cl_replay::ClusterState;
-use rv_image::{Image, Symbol};
+use rv_image_types::{Image, Symbol};
 use std::alloc::Global;
 use std::io::Write;
 

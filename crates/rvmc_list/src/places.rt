@@ -3,9 +3,9 @@
 ghost use Rattle.std.specs.Prelude.{◌≡◌, ◌++◌, ◌<◌, ◌^◌, OnOk, length};
 ghost use Rattle.rvmc_list.specs.Places.{HasPlaceLines, HasPlaces, place_line, places_head};
 
-use rv_image::Symbol;
+use rv_image_types::Symbol;
 use rvmc_places::put_place;
-use rvmc_tally::{Tally, next_hottest};
+use rvmc_stats::{Tally, next_hottest};
 use std::io;
 use std::io::Write;
 

@@ -2,22 +2,23 @@
 
 ghost use Rattle.std.specs.Prelude.{◌≡◌, ◌∷◌, ◌++◌, [], IfErr, OnOk, true};
 ghost use Rattle.cl_replay.specs.Steps.{Leads};
-ghost use Rattle.rvmc_list.specs.Ahead.{PutsPlain};
+ghost use Rattle.rvmc_list.specs.Fronts.{PutsPlain};
 ghost use Rattle.rvmc_list.specs.Folding.{is_plain as is_plain_of};
 ghost use Rattle.rvmc_list.specs.Keeping.{AreKept};
 ghost use Rattle.rvmc_list.specs.Phases.{phase_text};
 ghost use Rattle.rvmc_list.specs.Putting.{PutFaultHolds, PutsPlainLine};
 
-use crate::ahead::{put_front, put_rest};
 use crate::folding::close;
+use crate::fronts::put_front;
 use crate::kept::Texts;
 use crate::listing::Due;
 use crate::phases::put_phase;
-use crate::walk::{ListFault, advance, hart_after};
+use crate::walk::{ListFault, advance, hart_after, has_overflowed_after};
 use cl_machine::{KindRef, Step};
 use cl_replay::ClusterState;
 use cl_trace::Bare;
-use rv_image::Symbol;
+use rv_image_types::Symbol;
+use rvmc_sights::put_rest;
 use std::io;
 
 /// Whether a step does an instruction.
@@ -54,7 +55,7 @@ fn put_plain(
     let Some(after) = hart_after(state, step) else {
         return Ok(());
     };
-    put_rest(text, ahead, after)?;
+    put_rest(text, ahead, after, has_overflowed_after(state, step))?;
     Ok(())
 }
 

@@ -14,7 +14,7 @@ use crate::places::put_places;
 use crate::walk::{ListFault, advance, do_step, start};
 use cl_machine::Step;
 use cl_replay::ClusterState;
-use rv_image::{Image, Symbol};
+use rv_image_types::{Image, Symbol};
 use rvmc_stats::{Tables, put_calls, put_messages, put_turns};
 use std::alloc::{AllocError, Global};
 use std::io;
@@ -38,7 +38,7 @@ fn count_step(
     let Some(done) = do_step(state, place, step)? else {
         return Ok(());
     };
-    tables.add(step, &done.before.hart, &done.after);
+    tables.add(step, &done.before.hart, &done.after.hart);
     Ok(())
 }
 

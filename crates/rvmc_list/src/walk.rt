@@ -6,16 +6,17 @@ ghost use Rattle.cl_replay.specs.Replaying.{IsReached};
 ghost use Rattle.cl_replay.specs.Steps.{Leads};
 ghost use Rattle.rvmc_list.specs.List.{ListFaultHolds, is_past as is_past_of, last_place};
 ghost use Rattle.rvmc_list.specs.List.{names_no_rank as names_no_rank_of};
-ghost use Rattle.rvmc_list.specs.Putting.{IsDone, IsHartAfter, IsLook, IsStart, PutFaultHolds, StepsFaultHolds};
+ghost use Rattle.rvmc_list.specs.Putting.{IsDone, IsHartAfter, IsLook, IsOverflowAfter, IsStart, PutFaultHolds, StepsFaultHolds};
 ghost use Rattle.rvmc_list.specs.Written.{IsChecked};
 ghost use Rattle.rvmc_list.specs.declared.walk.ListFault.TheVariants as faults;
 
 use crate::folding::Wanted;
-use crate::lines::{Seen, look};
 use cl_machine::Step;
 use cl_replay::{ClusterState, ReplayFault, StepFault, replay};
 use rv_hart::Hart;
-use rv_image::Image;
+use rv_image_types::Image;
+use rvmc_places::has_overflowed;
+use rvmc_sights::{After, Seen, look, look_again};
 use std::alloc::{AllocError, Global};
 use std::io;
 
@@ -66,6 +67,19 @@ pub(crate) fn hart_after<'a>(state: &'a ClusterState, step: &Step) -> Option<&'a
     own.harts.get(usize::from(step.hart()))
 }
 
+/// Whether a step's hart has trapped because its stack is full.
+pub(crate) fn has_overflowed_after(state: &ClusterState, step: &Step) -> bool
+    ensures { IsOverflowAfter state.now step.now result }
+{
+    let Some(own) = state.ranks.get(usize::from(step.rank())) else {
+        return false;
+    };
+    match own.harts.get(usize::from(step.hart())) {
+        None => false,
+        Some(hart) => has_overflowed(&own.memory, hart),
+    }
+}
+
 /// Does a step that stands at this place.
 pub(crate) fn advance(state: &mut ClusterState, place: u64, step: &Step) -> Result<(), ListFault>
     ensures leads { OnOk result (Leads state.old step.now state.new) }
@@ -78,11 +92,11 @@ pub(crate) fn advance(state: &mut ClusterState, place: u64, step: &Step) -> Resu
     }
 }
 
-/// What was seen of a step that was done: before it, and its hart after it.
+/// What was seen of a step that was done: before it, and after it.
 #[derive(Clone, Copy, Drop)]
 pub(crate) struct Done {
     pub(crate) before: Seen,
-    pub(crate) after: Hart,
+    pub(crate) after: After,
 }
 
 /// Does a step that stands at this place, and tells what was seen of it.
@@ -100,13 +114,10 @@ pub(crate) fn do_step(
     let Some(before) = before else {
         return Ok(None);
     };
-    let Some(after) = hart_after(state, step) else {
+    let Some(after) = look_again(state, step) else {
         return Ok(None);
     };
-    Ok(Some(Done {
-        before,
-        after: *after,
-    }))
+    Ok(Some(Done { before, after }))
 }
 
 /// Whether a rank that is wanted isn't one of the image's.

@@ -9,7 +9,7 @@ use Rattle.cl_machine.specs.declared.steps.Step.{Step}
 use Rattle.rvmc_motions.specs.declared.marks.Halt.{Halt}
 use Rattle.rvmc_motions.specs.declared.marks.Mark.{Mark}
 use Rattle.rvmc_motions.specs.declared.marks.Mover.{Mover}
-use Rattle.rvmc_replies.specs.declared.stops.Stop.TheVariants as ends
+use Rattle.rvmc_protocol.specs.declared.replies.stops.Stop.TheVariants as ends
 use Rattle.rvmc_motions.specs.Motions.{IsFirstBehind, IsLastBefore, halt_at}
 use Rattle.rvmc_motions.specs.declared.turns.Whose.{Whose}
 use Rattle.rvmc_motions.specs.declared.marks.Motion.{Motion}

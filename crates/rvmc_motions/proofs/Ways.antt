@@ -9,7 +9,7 @@ use Rattle.cl_debug.specs.Debugging.{Debugging, at_place}
 use Rattle.cl_debug.specs.Faults.{GoFaultHolds}
 use Rattle.cl_debug.specs.declared.faults.DebugFault.{DebugFault}
 use Rattle.cl_debug.specs.declared.faults.DebugFault.TheVariants as faults
-use Rattle.rvmc_replies.specs.declared.stops.Stop.TheVariants as ends
+use Rattle.rvmc_protocol.specs.declared.replies.stops.Stop.TheVariants as ends
 use Rattle.rvmc_motions.specs.declared.marks.Halt.{Halt}
 use Rattle.rvmc_motions.specs.declared.marks.Mark.{Mark}
 use Rattle.rvmc_motions.specs.declared.marks.Mover.{Mover}

@@ -1,6 +1,6 @@
 -- The laws of motions.
 use Rattle.std.specs.Prelude.{ℕ, ◌≡◌, ◌<◌, ◌≤◌, ◌⊎◌, List, length, Option, Some, None, true}
-use Rattle.rv_image.specs.declared.images.ImageParts.{ImageParts}
+use Rattle.rv_image_types.specs.declared.images.ImageParts.{ImageParts}
 use Rattle.rv_hart.specs.State.{State}
 use Rattle.cl_state.specs.Rank.{Rank}
 use Rattle.cl_machine.specs.Cluster.{Cluster}

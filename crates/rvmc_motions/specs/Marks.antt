@@ -1,10 +1,10 @@
 -- Breakpoints and watchpoints.
 use Rattle.std.specs.Prelude.{ℕ, Bool, true, false, List, [], ◌∷◌, Option, Some, None, ◌==◌, ◌&&◌, ◌||◌, if◌then◌else◌}
 use Rattle.std.specs.Option.{option_or}
-use Rattle.rvmc_replies.specs.declared.stops.Stop.{Stop}
-use Rattle.rvmc_replies.specs.declared.stops.Stop.TheVariants as stops
-use Rattle.rvmc_requests.specs.declared.points.Point.{Point}
-use Rattle.rvmc_requests.specs.declared.points.Point.TheVariants.{Before, HardwareBefore, Written, Read, Touched}
+use Rattle.rvmc_protocol.specs.declared.replies.stops.Stop.{Stop}
+use Rattle.rvmc_protocol.specs.declared.replies.stops.Stop.TheVariants as stops
+use Rattle.rvmc_protocol.specs.declared.requests.points.Point.{Point}
+use Rattle.rvmc_protocol.specs.declared.requests.points.Point.TheVariants.{Before, HardwareBefore, Written, Read, Touched}
 use Rattle.rvmc_motions.specs.declared.marks.Mark.{Mark}
 use Rattle.rvmc_motions.specs.declared.marks.Ranks.{Ranks}
 use Rattle.rvmc_motions.specs.declared.marks.Ranks.TheVariants.{All, One}

@@ -2,8 +2,8 @@
 use Rattle.std.specs.Prelude.{ℕ, ◌≡◌, ◌<◌, ◌≤◌, ◌⊎◌, List, length, Option, Some, None}
 use Rattle.cl_machine.specs.Cluster.{Cluster}
 use Rattle.cl_debug.specs.Debugging.{Debugging, at_place}
-use Rattle.rvmc_replies.specs.declared.stops.Stop.{Stop}
-use Rattle.rvmc_replies.specs.declared.stops.Stop.TheVariants as ends
+use Rattle.rvmc_protocol.specs.declared.replies.stops.Stop.{Stop}
+use Rattle.rvmc_protocol.specs.declared.replies.stops.Stop.TheVariants as ends
 use Rattle.rvmc_motions.specs.declared.marks.Halt.{Halt}
 use Rattle.rvmc_motions.specs.declared.marks.Mark.{Mark}
 use Rattle.rvmc_motions.specs.declared.marks.Mover.{Mover}

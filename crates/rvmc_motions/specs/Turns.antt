@@ -5,13 +5,13 @@ use Rattle.std.specs.Option.{option_or}
 use Rattle.rv_hart.specs.State.{State}
 use Rattle.rv_hart.specs.declared.state.Mode.{Mode}
 use Rattle.rv_hart.specs.declared.state.Mode.TheVariants.{Running, Waiting, Ended, Trapped}
-use Rattle.rv_image.specs.declared.images.ImageParts.{ImageParts}
+use Rattle.rv_image_types.specs.declared.images.ImageParts.{ImageParts}
 use Rattle.cl_state.specs.Rank.{Rank}
 use Rattle.cl_machine.specs.Cluster.{Cluster}
 use Rattle.cl_machine.specs.declared.steps.Step.{Step}
 use Rattle.cl_debug.specs.Places.{IsAt}
-use Rattle.rvmc_replies.specs.declared.stops.Stop.{Stop}
-use Rattle.rvmc_replies.specs.declared.stops.Stop.TheVariants as stops
+use Rattle.rvmc_protocol.specs.declared.replies.stops.Stop.{Stop}
+use Rattle.rvmc_protocol.specs.declared.replies.stops.Stop.TheVariants as stops
 use Rattle.rvmc_motions.specs.declared.marks.Halt.{Halt}
 use Rattle.rvmc_motions.specs.declared.marks.Mark.{Mark}
 use Rattle.rvmc_motions.specs.declared.marks.Motion.{Motion}

@@ -4,9 +4,9 @@ use Rattle.std.specs.List.{filter}
 use Rattle.std.specs.Str.{bytes_eq}
 use Rattle.rv_memory.specs.Memory.{Memory, bytes_at}
 use Rattle.cl_state.specs.Rank.{Rank}
-use Rattle.rvmc_replies.specs.declared.stops.Stop.{Stop}
-use Rattle.rvmc_requests.specs.declared.points.Point.{Point}
-use Rattle.rvmc_requests.specs.declared.points.Point.TheVariants.{Before, HardwareBefore, Written, Read, Touched}
+use Rattle.rvmc_protocol.specs.declared.replies.stops.Stop.{Stop}
+use Rattle.rvmc_protocol.specs.declared.requests.points.Point.{Point}
+use Rattle.rvmc_protocol.specs.declared.requests.points.Point.TheVariants.{Before, HardwareBefore, Written, Read, Touched}
 use Rattle.rvmc_motions.specs.declared.marks.Mark.{Mark}
 use Rattle.rvmc_motions.specs.Marks.{first_some, is_watch_of, watch_stop}
 use Rattle.rvmc_motions.specs.Reads.{meets, read_by}

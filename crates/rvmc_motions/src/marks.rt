@@ -3,8 +3,8 @@
 ghost use Rattle.std.specs.Prelude.{◌≡◌};
 ghost use Rattle.rvmc_motions.specs.Marks.{break_of, broken, covers, is_watch_of, point_stop, watch_stop};
 
-use rvmc_replies::Stop;
-use rvmc_requests::Point;
+use rvmc_protocol::replies::Stop;
+use rvmc_protocol::requests::Point;
 
 /// Ranks of a cluster.
 #[derive(Clone, Copy)]

@@ -11,7 +11,7 @@ ghost use Rattle.rvmc_motions.specs.Walking.{IsBelow, IsLastIn, later};
 use crate::marks::{Halt, Mark, Mover};
 use crate::turns::{next_stop, turn};
 use cl_debug::{DebugFault, Debugger};
-use rvmc_replies::Stop;
+use rvmc_protocol::replies::Stop;
 use std::alloc::Global;
 
 /// Goes forwards to the first place at which the motion ends, and tells why it ends there.

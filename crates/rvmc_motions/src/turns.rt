@@ -13,7 +13,7 @@ use cl_debug::{DebugFault, Debugger};
 use cl_replay::Step;
 use cl_state::RankState;
 use rv_hart::{Hart, Mode};
-use rvmc_replies::Stop;
+use rvmc_protocol::replies::Stop;
 use std::alloc::{AllocError, Global};
 
 /// Whose turn a step is.

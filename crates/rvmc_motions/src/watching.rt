@@ -11,8 +11,8 @@ use crate::marks::{Mark, is_watch_of, watch_stop};
 use crate::reads::{meets, read_by};
 use cl_state::RankState;
 use rv_memory::RankMemory;
-use rvmc_replies::Stop;
-use rvmc_requests::Point;
+use rvmc_protocol::replies::Stop;
+use rvmc_protocol::requests::Point;
 use std::alloc::{AllocError, Global};
 use std::marker::Model;
 

@@ -1,14 +1,14 @@
 -- Each byte of a page's data is plain.
-use Rattle.std.specs.Prelude.{ℕ, zero, suc, ◌≡◌, ◌<◌, ◌+◌, ◌-◌, ◌*◌, ◌/◌, ◌%◌, ◌==◌, if◌then◌else◌, Bool, true, false, List, [], ◌∷◌, ◌++◌, codes, length, Option, Some, None}
+use Rattle.std.specs.Prelude.{ℕ, zero, suc, ◌≡◌, ◌<◌, ◌+◌, ◌-◌, ◌*◌, ◌/◌, ◌%◌, ◌==◌, if◌then◌else◌, Bool, true, false, List, [], ◌∷◌, ◌++◌, codes, length, nat_eq, Option, Some, None}
 use Rattle.std.specs.Fmt.{decimal, digit_glyph, digits, digits_onto}
-use Rattle.std.specs.List.{All, flat_map, list_all, range_with_len}
+use Rattle.std.specs.List.{All, ends_with, flat_map, list_all, range_with_len}
 use Rattle.std.proofs.Common.{arith, refl, inl, inr}
 use Rattle.std.proofs.lemmas.List.Elements.{All-append, All-cons, All-nil, All-replicate}
 use Rattle.std.proofs.lemmas.Bool.{and_parts}
 use Rattle.rv_hart.specs.declared.state.Mode.{Mode}
 use Rattle.rv_hart.specs.declared.state.Mode.TheVariants.{Running, Waiting, Ended, Trapped}
-use Rattle.rv_image.specs.declared.images.ImageParts.{ImageParts}
-use Rattle.rv_image.specs.declared.images.Symbol.{Symbol}
+use Rattle.rv_image_types.specs.declared.images.ImageParts.{ImageParts}
+use Rattle.rv_image_types.specs.declared.images.Symbol.{Symbol}
 use Rattle.rv_memory.specs.Fault.{cause_number}
 use Rattle.rvmc_changes.specs.declared.edits.Edit.{Edit}
 use Rattle.rvmc_changes.specs.declared.starts.HartStart.{HartStart}
@@ -20,7 +20,7 @@ use Rattle.rvmc_draw.specs.declared.drawing.Carried.{Carried}
 use Rattle.rvmc_draw.specs.declared.drawing.Carried.TheVariants.{Message, Claim, Could, Partition}
 use Rattle.rvmc_draw.specs.declared.drawing.Row.{Row}
 use Rattle.rvmc_draw.specs.declared.drawing.Spot.{Spot}
-use Rattle.rvmc_inspect.specs.WordTexts.{padded_hex}
+use Rattle.rvmc_picture.specs.Below.{padded_hex}
 use Rattle.rvmc_report.specs.Listing.{listing}
 use Rattle.rvmc_report.specs.Report.{newline}
 use Rattle.rvmc_page.specs.Escaped.{hex_pairs, spelled_byte, escaped_in_lines, is_unescaped}
@@ -28,11 +28,13 @@ use Rattle.rvmc_page.specs.Pages.{awaited_text, data_of, ways_text, told_lines}
 use Rattle.rvmc_page.specs.Plain.{IsPlain}
 use Rattle.rvmc_page.specs.Starts.{hart_start_text, hex, mode_letter, rank_start_text, row_bytes, row_line, row_text, stand_text}
 use Rattle.rvmc_page.specs.Steps.{changed_byte, change_text, put_text, changed_register}
+use Rattle.rvmc_page.specs.Texts.{source_text}
 use Rattle.rvmc_page.specs.Told.{arrow_text, carried_bytes, arrival_text, symbol_entry, wait_entry, way_text}
 use Rattle.rvmc_page.specs.declared.pages.Page.{Page}
 use Rattle.rvmc_page.specs.declared.pages.Part.{Part}
 use Rattle.rvmc_page.specs.declared.pages.Part.TheVariants as part
 use Rattle.rvmc_page.specs.declared.pages.Shown.{Shown}
+use Rattle.rvmc_page.specs.declared.texts.SourceText.{SourceText}
 
 -- ---- texts
 
@@ -242,6 +244,17 @@ a_wait row =
     & (either row.stuck (codes "s") (codes "w") (word (codes "s") refl) (word (codes "w") refl)
     & (each (λ rank. codes " " ++ decimal rank) (λ rank. blank & a_decimal rank) row.awaited.items & line_end)))))
 
+-- ---- the sources
+
+a_source : (source : SourceText) → Plain (source_text source)
+unfolding source_text
+a_source source =
+    one 92 (codes "file ") (inr (inr refl)) (word (codes "file ") refl)
+    & (each spelled_byte an_escaped source.name.now
+    & (line_end
+    & (each escaped_in_lines in_lines source.bytes.now
+    & either (ends_with nat_eq source.bytes.now newline) [] newline nothing line_end)))
+
 -- ---- all parts
 
 all_ways : (shown : Option Shown) → Plain (ways_text shown)
@@ -262,6 +275,7 @@ plain_data image page part.Start = each rank_start_text a_rank page.walk.start.i
 plain_data image page part.Steps = each change_text a_change page.walk.changes.items
 plain_data image page part.Program = each escaped_in_lines in_lines (listing image)
 plain_data image page part.Names = each symbol_entry a_name image.symbols
+plain_data image page part.Texts = each source_text a_source page.texts.now
 plain_data image page part.Ways = all_ways page.shown
 plain_data image page part.Waits = all_awaited page.shown
 plain_data image page part.Told = all_told page.shown

@@ -1,7 +1,7 @@
 -- How bytes of a guest stand in a page.
 use Rattle.std.specs.Prelude.{ℕ, ◌==◌, ◌&&◌, ◌||◌, nat_le, if◌then◌else◌, Bool, List, [], ◌∷◌}
 use Rattle.std.specs.List.{flat_map}
-use Rattle.rvmc_inspect.specs.WordTexts.{padded_hex}
+use Rattle.rvmc_picture.specs.Below.{padded_hex}
 
 -- letters, digits, space, `$`, `_` and what stands from `(` to `;` in ASCII: none is markup, or ends a text of a script
 abbrev pub is_unescaped : ℕ → Bool

@@ -4,4 +4,5 @@ pub mod Plain
 pub mod Records
 pub mod Starts
 pub mod Steps
+pub mod Texts
 pub mod Told

@@ -2,10 +2,11 @@
 use Rattle.std.specs.Prelude.{ℕ, List, [], ◌∷◌, ◌++◌, codes, Option, Some, None}
 use Rattle.std.specs.Fmt.{decimal}
 use Rattle.std.specs.List.{flat_map}
-use Rattle.rv_image.specs.declared.images.ImageParts.{ImageParts}
+use Rattle.rv_image_types.specs.declared.images.ImageParts.{ImageParts}
 use Rattle.rvmc_report.specs.Report.{newline}
 use Rattle.rvmc_page.specs.Starts.{starts_text}
 use Rattle.rvmc_page.specs.Steps.{changes_text}
+use Rattle.rvmc_page.specs.Texts.{texts_text}
 use Rattle.rvmc_page.specs.Told.{arrows_text, names_text, program_text, told_text, wait_entries}
 use Rattle.rvmc_page.specs.declared.pages.Page.{Page}
 use Rattle.rvmc_page.specs.declared.pages.Part.{Part}
@@ -29,13 +30,15 @@ abbrev pub told_lines : Option Shown → List ℕ
 told_lines None = []
 told_lines (Some shown) = told_text shown.drawing.told.items
 
--- the first place; the machine there; what each step changed; the program; its symbols; and what is told of the drawing
+-- the first place; the machine there; what each step changed; the program; its symbols; the sources; and what is told of
+-- the drawing
 abbrev pub data_of : ImageParts → Page → Part → List ℕ
 data_of image page part.First = decimal page.from ++ newline
 data_of image page part.Start = starts_text page.walk.start.items
 data_of image page part.Steps = changes_text page.walk.changes.items
 data_of image page part.Program = program_text image
 data_of image page part.Names = names_text image.symbols
+data_of image page part.Texts = texts_text page.texts.now
 data_of image page part.Ways = ways_text page.shown
 data_of image page part.Waits = awaited_text page.shown
 data_of image page part.Told = told_lines page.shown
@@ -48,6 +51,7 @@ part_name part.Start = codes "start"
 part_name part.Steps = codes "steps"
 part_name part.Program = codes "program"
 part_name part.Names = codes "names"
+part_name part.Texts = codes "texts"
 part_name part.Ways = codes "ways"
 part_name part.Waits = codes "waits"
 part_name part.Told = codes "told"
@@ -60,7 +64,7 @@ part_lines image page p =
 
 abbrev pub parts : List Part
 parts =
-    part.First ∷ part.Start ∷ part.Steps ∷ part.Program ∷ part.Names ∷ part.Ways ∷ part.Waits ∷ part.Told ∷ []
+    part.First ∷ part.Start ∷ part.Steps ∷ part.Program ∷ part.Names ∷ part.Texts ∷ part.Ways ∷ part.Waits ∷ part.Told ∷ []
 
 -- the picture, or that there is none
 abbrev pub picture_text : Option Shown → List ℕ

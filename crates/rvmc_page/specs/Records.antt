@@ -1,15 +1,16 @@
 -- The page of a record, and why there is none.
-use Rattle.std.specs.Prelude.{ℕ, ◌≡◌, ◌<◌, ◌≤◌, ◌-◌, true, false, List, length, Option, Some, None}
+use Rattle.std.specs.Prelude.{ℕ, ◌≡◌, ◌<◌, ◌≤◌, ◌-◌, true, false, List, length, map, Option, Some, None}
 use Rattle.std.specs.List.{All}
-use Rattle.rv_image.specs.declared.images.ImageParts.{ImageParts}
+use Rattle.rv_image_types.specs.declared.images.ImageParts.{ImageParts}
 use Rattle.cl_machine.specs.declared.steps.Step.{Step}
-use Rattle.cl_replay.specs.InnerReplaying.{BreaksAt}
+use Rattle.rvmc_picture.specs.Below.{BreaksAt}
 use Rattle.rvmc_changes.specs.Walks.{IsWalk}
 use Rattle.rvmc_draw.specs.declared.views.View.{View}
 use Rattle.rvmc_picture.specs.Pictures.{HasTooMany, IsDrawing, is_past_end}
 use Rattle.rvmc_svg.specs.Safe.{IsAllowed}
 use Rattle.rvmc_svg.specs.Shown.{IsShown}
 use Rattle.rvmc_page.specs.Pages.{page_of}
+use Rattle.rvmc_page.specs.Texts.{Source, source_of}
 use Rattle.rvmc_page.specs.declared.pages.Page.{Page}
 use Rattle.rvmc_page.specs.declared.pages.Shown.{Shown}
 use Rattle.rvmc_page.specs.declared.records.PageFault.{PageFault}
@@ -22,16 +23,19 @@ IsShownOf image steps view (Some shown) =
     IsDrawing image steps view shown.drawing × All IsAllowed shown.picture.items
     × IsShown shown.drawing shown.picture.items
 
--- what a page of the steps in view shows
-pub record IsPageOf (image : ImageParts) (steps : List Step) (view : View) (page : Page) : Type 0 where
+-- what a page of the steps in view shows, and of the sources
+pub record IsPageOf (image : ImageParts) (steps : List Step) (view : View) (sources : List Source) (page : Page)
+    : Type 0 where
   pub from : page.from ≡ view.from
   pub walk : IsWalk image steps view.from view.to page.walk
+  pub texts : map source_of page.texts.now ≡ sources
   pub shown : IsShownOf image steps view page.shown
 
 -- the text of such a page
-pub record IsPage (image : ImageParts) (steps : List Step) (view : View) (text : List ℕ) : Type 0 where
+pub record IsPage (image : ImageParts) (steps : List Step) (view : View) (sources : List Source) (text : List ℕ)
+    : Type 0 where
   pub page : Page
-  pub is : IsPageOf image steps view page
+  pub is : IsPageOf image steps view sources page
   pub text_is : text ≡ page_of image page
 
 -- ---- why there is none

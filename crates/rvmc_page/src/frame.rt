@@ -1,14 +1,14 @@
 //! What is the same in every page: all but the picture, the data and the script.
 
-/// Before the picture: that a browser fetches nothing for the page, and runs the one script with this hash, which `tests/page
-/// --write` puts here (W3C, Content Security Policy 3); and styles, in light and dark, and narrow.
+/// Before the picture: that a browser fetches nothing for the page, and runs the one script with this hash, which
+/// `tests/checks/page --write` puts here (W3C, Content Security Policy 3); and styles, in light and dark, and narrow.
 pub(crate) const HEAD: &str = "\
 <!doctype html>
 <html lang=en>
 <meta charset=utf-8>
 <meta name=viewport content='width=device-width'>
 <meta http-equiv=Content-Security-Policy content=\"default-src 'none'; style-src 'unsafe-inline';
- script-src 'sha256-QVGJYZqhs1VcMFbTVbU7cV1H1cAxIlalDIV4/Wx0y+g='\">
+ script-src 'sha256-F68tBqKN+w0PuXTL0U3UNOe+aTcuOk4FCY5lXId21fU='\">
 <title>rvmc: a record</title>
 <style>
 :root{color-scheme:light dark;font:13px system-ui,sans-serif;--ink:#1c1c1c;--dim:#666;--paper:#fff;--rule:#ccc;

@@ -5,8 +5,8 @@
 //! page.js has too, and the browser are tried.
 //!
 //! The meaning stands in specs/: how bytes are written (`Escaped`), the machine at the first place (`Starts`), what each step
-//! changed (`Steps`), what is told beside it (`Told`), the page's text (`Pages`), the law of its bytes (`Plain`), and the page of a record
-//! (`Records`).
+//! changed (`Steps`), what is told beside it (`Told`), the sources (`Texts`), the page's text (`Pages`), the law of its bytes
+//! (`Plain`), and the page of a record (`Records`).
 #![tactic(auto)]
 
 mod frame;
@@ -17,7 +17,9 @@ mod safe;
 mod script;
 mod starts;
 mod steps;
+mod texts;
 mod told;
 
 pub use pages::{Page, Part, Shown, page_text};
 pub use records::{PageFault, STEPS_MAX, page};
+pub use texts::SourceText;

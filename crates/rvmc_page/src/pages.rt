@@ -9,8 +9,9 @@ use crate::frame::{BODY, FOOT, HEAD, NO_PICTURE};
 use crate::script::SCRIPT;
 use crate::starts::put_starts;
 use crate::steps::put_changes;
+use crate::texts::{SourceText, put_texts};
 use crate::told::{put_arrows, put_names, put_program, put_told, put_waits};
-use rv_image::Image;
+use rv_image_types::Image;
 use rvmc_changes::Walk;
 use rvmc_draw::Drawing;
 use std::alloc::Global;
@@ -27,10 +28,12 @@ pub struct Shown {
 
 /// What a page shows of a record.
 #[derive(Drop)]
-pub struct Page {
+pub struct Page<'a> {
     /// The first place.
     pub from: u64,
     pub walk: Walk,
+    /// The sources.
+    pub texts: &'a [SourceText<'a>],
     /// None where the steps have more marks than a picture may have.
     pub shown: Option<Shown>,
 }
@@ -48,6 +51,8 @@ pub enum Part {
     Program,
     /// Its symbols.
     Names,
+    /// The sources.
+    Texts,
     /// From which step to which messages and partitions go.
     Ways,
     /// Which harts wait for whom at the end.
@@ -66,6 +71,7 @@ fn part_name(part: Part) -> &'static str
         Part::Steps => "steps",
         Part::Program => "program",
         Part::Names => "names",
+        Part::Texts => "texts",
         Part::Ways => "ways",
         Part::Waits => "waits",
         Part::Told => "told",
@@ -108,7 +114,7 @@ fn put_data(
     alloc: Global,
     text: &mut Vec<u8>,
     image: &Image,
-    page: &Page,
+    page: &Page<'_>,
 ) -> io::Result<()>
     ensures { OnOk result (text.new.items ≡ text.old.items ++ data_of image.now page.now part) }
 {
@@ -121,6 +127,7 @@ fn put_data(
         Part::Steps => put_changes(text, page.walk.changes.as_slice()),
         Part::Program => put_program(alloc, text, image),
         Part::Names => put_names(text, image.parts().symbols.as_slice()),
+        Part::Texts => put_texts(text, page.texts),
         Part::Ways => put_ways(text, &page.shown),
         Part::Waits => put_awaited(text, &page.shown),
         Part::Told => put_why(text, &page.shown),
@@ -133,7 +140,7 @@ fn put_part(
     alloc: Global,
     text: &mut Vec<u8>,
     image: &Image,
-    page: &Page,
+    page: &Page<'_>,
     part: Part,
 ) -> io::Result<()>
     ensures { OnOk result (text.new.items ≡ text.old.items ++ part_lines image.now page.now part) }
@@ -151,7 +158,7 @@ fn put_these(
     alloc: Global,
     text: &mut Vec<u8>,
     image: &Image,
-    page: &Page,
+    page: &Page<'_>,
     parts: &[Part],
 ) -> io::Result<()>
     ensures { OnOk result (text.new.items ≡ text.old.items ++ flat_map (part_lines image.now page.now) parts.now) }
@@ -163,7 +170,7 @@ fn put_these(
 }
 
 /// Adds all parts, in their order.
-fn put_parts(alloc: Global, text: &mut Vec<u8>, image: &Image, page: &Page) -> io::Result<()>
+fn put_parts(alloc: Global, text: &mut Vec<u8>, image: &Image, page: &Page<'_>) -> io::Result<()>
     ensures { OnOk result (text.new.items ≡ text.old.items ++ flat_map (part_lines image.now page.now) parts) }
 {
     let parts = [
@@ -172,6 +179,7 @@ fn put_parts(alloc: Global, text: &mut Vec<u8>, image: &Image, page: &Page) -> i
         Part::Steps,
         Part::Program,
         Part::Names,
+        Part::Texts,
         Part::Ways,
         Part::Waits,
         Part::Told,
@@ -191,7 +199,7 @@ fn put_picture(text: &mut Vec<u8>, shown: &Option<Shown>) -> io::Result<()>
 }
 
 /// The text of a page of an image's record. The only error is want of memory.
-pub fn page_text(alloc: Global, image: &Image, page: &Page) -> io::Result<Vec<u8>>
+pub fn page_text(alloc: Global, image: &Image, page: &Page<'_>) -> io::Result<Vec<u8>>
     ensures { IfOk result (λ text. text.items ≡ page_of image.now page.now) }
 {
     let mut text = Vec::new(alloc);

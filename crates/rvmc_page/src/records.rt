@@ -1,17 +1,19 @@
 //! The page of a record.
 
-ghost use Rattle.std.specs.Prelude.{◌≡◌, ◌≤◌, ◌||◌, IfErr, IfOk, false, length, nat_lt};
+ghost use Rattle.std.specs.Prelude.{◌≡◌, ◌≤◌, ◌||◌, IfErr, IfOk, false, length, map, nat_lt};
 ghost use Rattle.std.specs.List.{All};
 ghost use Rattle.rvmc_changes.specs.Walks.{IsWalk};
 ghost use Rattle.rvmc_page.specs.Records.{IsPage, IsPageOf, IsShownOf, PageFaultHolds, count_in, steps_max};
+ghost use Rattle.rvmc_page.specs.Texts.{source_of};
 ghost use Rattle.rvmc_page.specs.declared.records.PageFault.TheVariants as faults;
 ghost use Rattle.rvmc_picture.specs.Pictures.{is_past_end as is_past_of, view_of as view_in};
 ghost use Rattle.rvmc_svg.specs.Safe.{IsAllowed};
 ghost use Rattle.rvmc_svg.specs.Shown.{IsShown};
 
 use crate::pages::{Page, Shown, page_text};
+use crate::texts::SourceText;
 use cl_machine::Step;
-use rv_image::Image;
+use rv_image_types::Image;
 use rvmc_changes::{Walk, WalkFault, walk};
 use rvmc_draw::Drawing;
 use rvmc_picture::{DrawFault, drawing};
@@ -116,35 +118,44 @@ fn walked(
 }
 
 /// What a page shows of the steps from one place to another.
-fn shown_page(
+fn shown_page<'a>(
     alloc: Global,
     image: &Image,
     steps: &[Step],
     from: u64,
     to: Option<u64>,
-) -> Result<Page, PageFault>
+    texts: &'a [SourceText<'a>],
+) -> Result<Page<'a>, PageFault>
     requires few { count_in (view_in from to steps.now) ≤ steps_max }
     requires there { is_past_of (view_in from to steps.now) steps.now ≡ false }
-    ensures is { IfOk result (IsPageOf image.now steps.now (view_in from to steps.now)) }
+    ensures is { IfOk result
+        (IsPageOf image.now steps.now (view_in from to steps.now) (map source_of texts.now)) }
     ensures fault { IfErr result (PageFaultHolds image.now steps.now (view_in from to steps.now)) }
 {
     let shown = shown_of(alloc, image, steps, from, to)?;
     let walk = walked(alloc, image, steps, from, to)?;
-    Ok(Page { from, walk, shown })
+    Ok(Page {
+        from,
+        walk,
+        texts,
+        shown,
+    })
 }
 
-/// A record as a page: the steps from one place to another, or else to the end, at most 200,000.
+/// A record as a page: the steps from one place to another, or else to the end, at most 200,000, and these sources.
 ///
 /// Refusals, in this order: PastEnd where a place is behind the last step; TooMany; NotARun where a step of the record is none
 /// of the machine; Memory.
-pub fn page(
+pub fn page<'a>(
     alloc: Global,
     image: &Image,
     steps: &[Step],
     from: u64,
     to: Option<u64>,
+    texts: &'a [SourceText<'a>],
 ) -> Result<Vec<u8>, PageFault>
-    ensures is { IfOk result (λ text. IsPage image.now steps.now (view_in from to steps.now) text.items) }
+    ensures is { IfOk result (λ text.
+        IsPage image.now steps.now (view_in from to steps.now) (map source_of texts.now) text.items) }
     ensures fault { IfErr result (PageFaultHolds image.now steps.now (view_in from to steps.now)) }
 {
     let last = to.unwrap_or(steps.len() as u64);
@@ -155,7 +166,7 @@ pub fn page(
     if count > STEPS_MAX {
         return Err(PageFault::TooMany(count));
     }
-    let page = shown_page(alloc, image, steps, from, to)?;
+    let page = shown_page(alloc, image, steps, from, to, texts)?;
     let text = page_text(alloc, image, &page)?;
     Ok(text)
 }

@@ -2,7 +2,7 @@
 
 ghost use Rattle.std.specs.Prelude.{◌≡◌, ◌++◌, OnOk};
 ghost use Rattle.std.specs.List.{flat_map};
-ghost use Rattle.rvmc_inspect.specs.WordTexts.{padded_hex};
+ghost use Rattle.rvmc_picture.specs.Below.{padded_hex};
 ghost use Rattle.rvmc_page.specs.Escaped.{hex_pairs, spelled_byte, escaped_in_lines, is_unescaped as is_plain_of};
 
 use std::io;

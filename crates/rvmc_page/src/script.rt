@@ -1,18 +1,17 @@
-//! The script of every page, which stands in page.js too: `tests/page --write` makes this file of that.
+//! The script of every page, which stands in page.js too: `tests/checks/page --write` makes this file of that.
 
 /// The element of the script begins here; `FOOT` ends it.
 pub(crate) const SCRIPT: &str = "\
 <script>
 \"use strict\";
 // Walks a record. It computes nothing of the machine: for each step the page holds what that step changed, old and new, and
-// here it is put in place, forwards or back. `tests/page --write` puts this text into src/script.rt.
+// here it is put in place, forwards or back. `tests/checks/page --write` puts this text into src/script.rt.
 
 const find = (name) => document.getElementById(\"page-\" + name);
 // a part of the data, as lines; a byte that could be markup is written there as \\x3c
 const lines = (name) => find(name) ? find(name).textContent.split(\"\\n\").slice(0, -1) : [];
 const unescaped = (text) => text.replace(/\\\\x(..)/g, (all, two) => String.fromCharCode(parseInt(two, 16)));
 const bytes = (digits) => (digits.match(/[0-9a-f]{2}/g) || []).map((two) => parseInt(two, 16));
-const latin = (digits) => bytes(digits).map((byte) => String.fromCharCode(byte)).join(\"\");
 const hex = (number, width) => number.toString(16).padStart(width, \"0\");
 const NAMES = (\"zero ra sp gp tp t0 t1 t2 s0 s1 a0 a1 a2 a3 a4 a5 a6 a7 \" +
   \"s2 s3 s4 s5 s6 s7 s8 s9 s10 s11 t3 t4 t5 t6\").split(\" \");
@@ -20,16 +19,36 @@ const NAMES = (\"zero ra sp gp tp t0 t1 t2 s0 s1 a0 a1 a2 a3 a4 a5 a6 a7 \" +
 // ---- the data
 
 const first = +lines(\"first\")[0];
-const steps = lines(\"steps\");
-const last = first + steps.length;
+// the steps, a line each, as bytes: a long run has tens of millions of them
+const written = new TextEncoder().encode(find(\"steps\").textContent);
+find(\"steps\").textContent = \"\";
+const END_OF_LINE = 10, BLANK = 32;
+function lineStarts() {
+  const length = written.length;
+  let all = new Uint32Array(length / 16 + 64), count = 0;
+  for (let at = 0; at < length; at++) {
+    if (written[at] !== END_OF_LINE) continue;
+    count += 1;
+    if (count === all.length) {
+      const more = new Uint32Array(2 * count);
+      more.set(all);
+      all = more;
+    }
+    all[count] = at + 1;
+  }
+  return all.slice(0, count + 1);
+}
+const starts = lineStarts(); // where the line of each step begins
+const count = starts.length - 1;
+const last = first + count;
 const ranks = [];
 for (const line of lines(\"start\")) {
   const words = line.slice(2).split(\" \");
   const rank = ranks[ranks.length - 1];
-  if (line[0] === \"r\") ranks.push({ harts: [], memory: new Uint8Array(+words[0]), output: \"\" });
+  if (line[0] === \"r\") ranks.push({ harts: [], memory: new Uint8Array(+words[0]), output: [], put: 0 });
   if (line[0] === \"h\") rank.harts.push({ stand: words[0], registers: words.slice(1), step: -1 });
   if (line[0] === \"m\") rank.memory.set(bytes(words[1]), parseInt(words[0], 16));
-  if (line[0] === \"o\") rank.output = latin(words[0]);
+  if (line[0] === \"o\") rank.output = bytes(words[0]);
 }
 const symbols = lines(\"names\").map((line) => line.split(\" \"))
   .map(([address, name]) => ({ address: parseInt(address, 16), name: unescaped(name) }))
@@ -81,15 +100,82 @@ function named(address) {
   return label ? label.name + \"+0x\" + hex(address - label.address, 1) + \" [\" + at + \"]\" : at;
 }
 
-// ---- what is known of all steps: whose each is, the last one of its hart, and the calls that its hart is within behind it
+// ---- the line of a step
 
-const owners = new Uint8Array(steps.length);
-const before = new Int32Array(steps.length);
-const frames = [];
-const begins = []; // the places at which some hart begins a line
-const entered = new Map(); // an address, and the places before its instruction is done
-const known = new Map(); // an address, and its line, as farm.c:46
+let cursor = 0; // the place up to which it was read
+const digit = (byte) => byte >= 48 && byte <= 57 ? byte - 48 : byte >= 97 && byte <= 102 ? byte - 87 : -1;
+
+// the digits that come next, as a number
+function digits(base) {
+  let value = 0;
+  for (let next; (next = digit(written[cursor])) >= 0; cursor++) value = base * value + next;
+  return value;
+}
+
+// the byte of memory that stands at a place
+function byteAt(place) {
+  const low = digit(written[place + 1]);
+  return low < 0 ? digit(written[place]) : 16 * digit(written[place]) + low;
+}
+// what stands there up to the first sign that isn't of it; a text from the start of the page stands for itself
+function standing(place, isOf) {
+  if (typeof place === \"string\") return place;
+  let end = place;
+  while (isOf(written[end])) end += 1;
+  return String.fromCharCode(...written.subarray(place, end));
+}
+const standAt = (place) => standing(place, (byte) => byte > BLANK);
+const valueAt = (place) => standing(place, (byte) => digit(byte) >= 0);
+
+// of the step that was read last: its rank and hart, where the words stand that tell how the hart stood and stands, and
+// the pc that it had and has
+const read = { rank: 0, hart: 0, old: 0, now: 0, pc: 0, next: 0 };
+function readStep(n) {
+  cursor = starts[n];
+  read.rank = digits(10);
+  cursor += 1;
+  read.hart = digits(10);
+  read.old = ++cursor;
+  read.pc = digits(16);
+  while (written[cursor] !== BLANK) cursor += 1;
+  read.now = ++cursor;
+  read.next = digits(16);
+  while (written[cursor] > BLANK) cursor += 1;
+}
+
+// and what else it changed: each register or byte, as x or m, with its number or address, and where its old and its new
+// value stand; and what it put out, as o, with where that begins and ends
+function eachEdit(tell) {
+  while (written[cursor] === BLANK) {
+    const kind = String.fromCharCode(written[cursor + 1]);
+    const place = (cursor += 2) && kind === \"o\" ? 0 : digits(kind === \"x\" ? 10 : 16);
+    const old = kind === \"o\" ? cursor : ++cursor;
+    while (digit(written[cursor]) >= 0) cursor += 1;
+    const now = kind === \"o\" ? cursor : ++cursor;
+    while (digit(written[cursor]) >= 0) cursor += 1;
+    tell(kind, place, old, now);
+  }
+}
+
+// ---- what is known of all steps: whose each is, the last one of its hart, the point of the program that it is of, whether it
+// begins a line, and the calls that its hart is within behind it
+
+const owners = new Uint8Array(count);
+const ownHarts = new Uint8Array(count);
+const before = new Int32Array(count);
+const points = []; // each address that is met, its line, as farm.c:46, and whether it calls or returns
+const known = new Map(); // and its number among them
+const pointOf = new Uint32Array(count);
+const begins = new Uint8Array(count);
+const calls = []; // each call: where it returns to, and the number of the one around it, or -1
+const within = new Int32Array(count);
 const own = new Set(); // names that the program's own lines wrote, or any instruction where no line is known
+
+// the steps are in blocks: of each is kept how all harts are at its beginning, how much is written there, and each byte of
+// the memory that it changes, as it is before and behind it. So a place far away is reached block by block
+const BLOCK = 4096;
+const blocks = [];
+const blockOf = (place) => Math.floor((place - first) / BLOCK);
 
 // the name of the data at an address, with the size up to the next name
 const datas = labels.filter((one, n) => one.address >= textEnd && one.address < ranks[0].memory.length &&
@@ -97,70 +183,156 @@ const datas = labels.filter((one, n) => one.address >= textEnd && one.address < 
 datas.forEach((one, n) => one.size = (n + 1 < datas.length ? datas[n + 1].address : ranks[0].memory.length) - one.address);
 
 // a call, a return, or neither
-const kinds = program.map((line) => /^\\S+ \\S+ +jalr? x1,/.test(line.text) ? \"call\"
-  : /^\\S+ \\S+ +jalr x0, 0\\(x1\\)/.test(line.text) ? \"return\" : \"\");
+const kindOfPoint = (pc) => rows.has(pc) && /^\\S+ \\S+ +jalr? x1,/.test(program[rows.get(pc)].text) ? \"call\"
+  : rows.has(pc) && /^\\S+ \\S+ +jalr x0, 0\\(x1\\)/.test(program[rows.get(pc)].text) ? \"return\" : \"\";
 
-function calls(frame, pc, to) {
-  const kind = kinds[rows.get(pc)];
-  if (kind === \"call\" && to !== pc) return { back: pc + 4, up: frame };
-  if (kind !== \"return\") return frame;
-  for (let one = frame; one; one = one.up) if (one.back === to) return one.up;
-  return frame;
+function pointAt(pc) {
+  if (!known.has(pc)) known.set(pc, points.push({ pc, line: (lineAt(pc) || []).join(\":\"), kind: kindOfPoint(pc) }) - 1);
+  return known.get(pc);
 }
 
-function lookThrough() {
-  const lately = ranks.map((rank) => rank.harts.map(() => ({ step: -1, line: \"\" })));
-  steps.forEach((text, n) => {
-    const [rank, hart, old, now, ...edits] = text.split(\" \");
-    const of = lately[rank][hart];
-    const pc = parseInt(old, 16);
-    if (!known.has(pc)) known.set(pc, (lineAt(pc) || []).join(\":\"));
-    const line = known.get(pc);
-    owners[n] = +rank;
-    before[n] = of.step;
-    frames.push(calls(of.step < 0 ? undefined : frames[of.step], pc, parseInt(now, 16)));
-    if (line && line !== of.line) begins.push(first + n);
-    if (!entered.has(pc)) entered.set(pc, []);
-    entered.get(pc).push(first + n);
-    if (line || lineNames.length === 0) for (const edit of edits) if (edit[0] === \"m\") {
-      const data = nearest(datas, parseInt(edit.slice(1), 16));
-      if (data && !/^(_|rvmc_)/.test(data.name)) own.add(data.name);
+// the call that a hart is within behind a step that took it from a point to an address
+function callBehind(call, point, to) {
+  if (point.kind === \"call\" && to !== point.pc) return calls.push({ back: point.pc + 4, up: call }) - 1;
+  if (point.kind !== \"return\") return call;
+  for (let one = call; one >= 0; one = calls[one].up) if (calls[one].back === to) return calls[one].up;
+  return call;
+}
+
+// bytes that are added one by one
+class Bytes {
+  constructor(some) { this.all = Uint8Array.from(some); this.count = some.length; }
+  push(byte) {
+    if (this.count === this.all.length) {
+      const larger = new Uint8Array(2 * this.count + 64);
+      larger.set(this.all);
+      this.all = larger;
     }
-    of.line = line || of.line;
-    of.step = n;
-  });
+    this.all[this.count++] = byte;
+  }
+}
+
+// goes through all steps once, from the first place to the last
+function lookThrough() {
+  const lately = ranks.map((rank) => rank.harts.map(() => \"\"));
+  const stamps = ranks.map((rank) => new Uint16Array(rank.memory.length)); // the block that changed a byte last, from 1
+  const touched = new Uint8Array(ranks[0].memory.length); // by the program's own lines
+  const outputs = ranks.map((rank) => new Bytes(rank.output));
+  let places = [], olds = [], isOwn = false;
+  const change = (kind, place, old, now) => {
+    const rank = ranks[read.rank];
+    if (kind === \"x\") rank.harts[read.hart].registers[place] = now;
+    else if (kind === \"o\") for (let at = old; at < now; at += 2) outputs[read.rank].push(byteAt(at));
+    else {
+      if (stamps[read.rank][place] !== blocks.length) {
+        stamps[read.rank][place] = blocks.length;
+        places.push(read.rank * 1048576 + place);
+        olds.push(byteAt(old));
+      }
+      rank.memory[place] = byteAt(now);
+      if (isOwn) touched[place] = 1;
+    }
+  };
+  const close = () => {
+    if (blocks.length === 0) return;
+    const news = places.map((at) => ranks[at >>> 20].memory[at & 1048575]);
+    Object.assign(blocks[blocks.length - 1], { places: Uint32Array.from(places), olds: Uint8Array.from(olds), news: Uint8Array.from(news) });
+    places = [];
+    olds = [];
+  };
+  for (let n = 0; n <= count; n++) {
+    if (n % BLOCK === 0) {
+      close();
+      blocks.push({ ranks: ranks.map((rank, r) => ({
+        put: outputs[r].count, harts: rank.harts.map((hart) => ({ ...hart, registers: hart.registers.slice() })),
+      })) });
+    }
+    if (n === count) break;
+    readStep(n);
+    const hart = ranks[read.rank].harts[read.hart];
+    const number = pointAt(read.pc);
+    const { line } = points[number];
+    owners[n] = read.rank;
+    ownHarts[n] = read.hart;
+    pointOf[n] = number;
+    before[n] = hart.step;
+    within[n] = callBehind(hart.step < 0 ? -1 : within[hart.step], points[number], read.next);
+    begins[n] = line && line !== lately[read.rank][read.hart] ? 1 : 0;
+    if (line) lately[read.rank][read.hart] = line;
+    isOwn = line !== \"\" || lineNames.length === 0;
+    eachEdit(change);
+    hart.stand = read.now;
+    hart.step = n;
+  }
+  close();
+  ranks.forEach((rank, r) => Object.assign(rank, { output: outputs[r].all, put: outputs[r].count }));
+  for (const one of datas) {
+    if (!/^(_|rvmc_)/.test(one.name) && touched.subarray(one.address, one.address + one.size).includes(1)) own.add(one.name);
+  }
 }
 lookThrough();
 
 // ---- the machine, and how a step is put in place
 
-let place = first; // so many steps are done
+let place = last; // so many steps are done
 let shown = { rank: 0, hart: 0 };
 
-// which: 1 puts old values there, 2 new ones
-function put(number, which) {
-  const [rank, hart, old, now, ...edits] = steps[number].split(\" \");
-  const owner = ranks[rank];
-  owner.harts[hart].stand = which === 1 ? old : now;
-  owner.harts[hart].step = which === 1 ? before[number] : number;
-  for (const edit of edits) {
-    const parts = edit.slice(1).split(\".\");
-    if (edit[0] === \"x\") owner.harts[hart].registers[parts[0]] = parts[which];
-    else if (edit[0] === \"m\") owner.memory[parseInt(parts[0], 16)] = parseInt(parts[which], 16);
-    else if (which === 2) owner.output += latin(parts[0]);
-    else owner.output = owner.output.slice(0, owner.output.length - parts[0].length / 2);
-  }
+// puts a step in place: its new values, or its old ones
+function put(n, isNew) {
+  readStep(n);
+  const rank = ranks[read.rank];
+  const hart = rank.harts[read.hart];
+  hart.stand = isNew ? read.now : read.old;
+  hart.step = isNew ? n : before[n];
+  eachEdit((kind, at, old, now) => {
+    if (kind === \"x\") hart.registers[at] = isNew ? now : old;
+    else if (kind === \"m\") rank.memory[at] = byteAt(isNew ? now : old);
+    else rank.put += (isNew ? now - old : old - now) / 2;
+  });
+}
+
+// tells each change of the memories on the way from this place to another: the rank, the address, and the byte
+function memoryTo(to, tell) {
+  let n = place - first;
+  const steps = (end) => {
+    const isNew = n < end;
+    while (n !== end) {
+      readStep(isNew ? n++ : --n);
+      eachEdit((kind, at, old, now) => kind === \"m\" && tell(read.rank, at, byteAt(isNew ? now : old)));
+    }
+  };
+  const whole = ({ places, olds, news }, isNew) => {
+    for (let k = 0; k < places.length; k++) tell(places[k] >>> 20, places[k] & 1048575, (isNew ? news : olds)[k]);
+  };
+  const from = blockOf(place), there = blockOf(to);
+  if (from < there) steps((from + 1) * BLOCK);
+  if (from > there) steps(from * BLOCK);
+  for (let k = from + 1; k < there; k++) whole(blocks[k], true);
+  for (let k = from - 1; k >= there; k--) whole(blocks[k], false);
+  if (from !== there) n = there * BLOCK;
+  steps(to - first);
+}
+
+// to the beginning of a block
+function toBlock(number) {
+  memoryTo(first + number * BLOCK, (rank, address, byte) => ranks[rank].memory[address] = byte);
+  blocks[number].ranks.forEach(({ put, harts }, r) => {
+    ranks[r].put = put;
+    ranks[r].harts = harts.map((hart) => ({ ...hart, registers: hart.registers.slice() }));
+  });
+  place = first + number * BLOCK;
+}
+
+function go(to) {
+  to = Math.max(first, Math.min(last, Math.trunc(to) || 0));
+  if (blockOf(to) !== blockOf(place)) toBlock(blockOf(to));
+  while (place < to) put(place++ - first, true);
+  while (place > to) put(--place - first, false);
+  show();
 }
 
 // what is said of the last key or button
 const say = (text) => find(\"said\").textContent = text;
-
-function go(to) {
-  to = Math.max(first, Math.min(last, Math.trunc(to) || 0));
-  while (place < to) put(place++ - first, 2);
-  while (place > to) put(--place - first, 1);
-  show();
-}
 
 // a step on or back
 function move(to) {
@@ -170,7 +342,7 @@ function move(to) {
   go(to);
 }
 
-const harted = (step) => steps[step - first].split(\" \", 2).map(Number);
+const harted = (step) => [owners[step - first], ownHarts[step - first]];
 
 // to a place, with the hart of a step in view
 function stand(step, to, text) {
@@ -193,12 +365,19 @@ const lastMark = () => visit(earlier(marks, place - 1), \"there is no mark befor
 
 // ---- by lines
 
-// of the places before steps, those that are wanted: of the rank in view, or of all
+// the places before the steps of which this holds
+function placesOf(holds) {
+  const all = [];
+  for (let n = 0; n < count; n++) if (holds(n)) all.push(first + n);
+  return all;
+}
+// of places, those that are wanted: of the rank in view, or of all
 const wanted = (places) => find(\"only\").checked ? places.filter((at) => owners[at - first] === shown.rank) : places;
 
 const stops = new Set(); // lines, as farm.c:46
-const pcBefore = (at) => parseInt(steps[at - first].split(\" \", 3)[2], 16);
-const lineBefore = (at) => known.get(pcBefore(at));
+const pcBefore = (at) => points[pointOf[at - first]].pc;
+const lineBefore = (at) => points[pointOf[at - first]].line;
+const lineBegins = () => wanted(placesOf((n) => begins[n]));
 
 // to the next of these places, or to the last one before this
 function seek(places, forwards, missing) {
@@ -207,9 +386,9 @@ function seek(places, forwards, missing) {
   stand(at, at);
 }
 const which = () => find(\"only\").checked ? \" of rank \" + shown.rank : \"\";
-const nextLine = () => seek(wanted(begins), true, \"no line\" + which() + \" begins behind this place\");
-const lastLine = () => seek(wanted(begins), false, \"no line\" + which() + \" begins before this place\");
-const stopPlaces = () => wanted(begins).filter((at) => stops.has(lineBefore(at)));
+const nextLine = () => seek(lineBegins(), true, \"no line\" + which() + \" begins behind this place\");
+const lastLine = () => seek(lineBegins(), false, \"no line\" + which() + \" begins before this place\");
+const stopPlaces = () => lineBegins().filter((at) => stops.has(lineBefore(at)));
 const noStop = (where) => stops.size === 0 ? \"there is no breakpoint: click on a line of the source\"
   : \"no breakpoint\" + which() + \" is met \" + where + \" this place\";
 const nextStop = () => seek(stopPlaces(), true, noStop(\"behind\"));
@@ -221,11 +400,11 @@ const lastStop = () => seek(stopPlaces(), false, noStop(\"before\"));
 // behind the step shows it
 function hits(text) {
   const line = /^(?:(.+):)?([1-9][0-9]*)$/.exec(text);
-  const isMet = (at) => lineBefore(at) === text || lineBefore(at).endsWith(\":\" + text);
-  if (line && lineNames.length) return [begins.filter(isMet), 0];
+  const met = points.map((one) => one.line === text || one.line.endsWith(\":\" + text));
+  if (line && lineNames.length) return [placesOf((n) => begins[n] && met[pointOf[n]]), 0];
   const label = labels.find((one) => one.name === text && one.address < textEnd);
   const address = label ? label.address : /^0x[0-9a-f]+$/i.test(text) ? Number(text) : -1;
-  if (address >= 0) return [entered.get(address) || [], 0];
+  if (address >= 0) return [placesOf((n) => pointOf[n] === known.get(address)), 0];
   const tag = /^tag[ =]?(\\d+)$/.exec(text);
   const small = text.toLowerCase();
   const has = tag ? (told) => new RegExp(\"\\\\btag[ =]\" + tag[1] + \"\\\\b\").test(told) : (told) => told.toLowerCase().includes(small);
@@ -257,16 +436,9 @@ const otherEnd = () => lastWay() ? crossed(lastWay()) : say(\"the step that was 
 // bytes of a rank's memory as they are at another place
 function bytesAt(rank, from, size, at) {
   const all = ranks[rank].memory.slice(from, from + size);
-  const edit = (number, which) => {
-    if (owners[number] !== rank) return;
-    for (const one of steps[number].split(\" \")) if (one[0] === \"m\") {
-      const parts = one.slice(1).split(\".\");
-      const there = parseInt(parts[0], 16) - from;
-      if (there >= 0 && there < size) all[there] = parseInt(parts[which], 16);
-    }
-  };
-  for (let n = place; n < at; n++) edit(n - first, 2);
-  for (let n = place; n > at; n--) edit(n - 1 - first, 1);
+  memoryTo(at, (whose, address, byte) => {
+    if (whose === rank && address >= from && address < from + size) all[address - from] = byte;
+  });
   return all;
 }
 
@@ -327,13 +499,31 @@ function choice(name) {
   return select;
 }
 
+// whether a step changes bytes of the rank in view, and whether a block does
+function touches(n, { address, size }) {
+  let does = false;
+  readStep(n);
+  if (read.rank === shown.rank) eachEdit((kind, at) => does = does || kind === \"m\" && at >= address && at < address + size);
+  return does;
+}
+const blockTouches = (number, { address, size }) => blocks[number].places.some((one) =>
+  one >>> 20 === shown.rank && (one & 1048575) >= address && (one & 1048575) < address + size);
+
 // to the next step that changes bytes of the rank in view, or to the last one before this
 function change(data, forwards) {
-  const touches = (edit) => edit[0] === \"m\" && parseInt(edit.slice(1), 16) - data.address >= 0 &&
-    parseInt(edit.slice(1), 16) - data.address < data.size;
-  let n = (forwards ? place : place - 2) - first;
-  while (n >= 0 && n < steps.length && !(owners[n] === shown.rank && steps[n].split(\" \").some(touches))) n += forwards ? 1 : -1;
-  visit(n >= 0 && n < steps.length ? first + n : undefined,
+  const on = forwards ? 1 : -1;
+  let n = (forwards ? place : place - 2) - first, looked = -1;
+  while (n >= 0 && n < count) {
+    const number = Math.floor(n / BLOCK);
+    if (looked !== number && !blockTouches(number, data)) {
+      n = forwards ? (number + 1) * BLOCK : number * BLOCK - 1;
+      continue;
+    }
+    looked = number;
+    if (owners[n] === shown.rank && touches(n, data)) break;
+    n += on;
+  }
+  visit(n >= 0 && n < count ? first + n : undefined,
     \"rank \" + shown.rank + \" doesn't change \" + data.name + (forwards ? \" behind\" : \" before\") + \" this place\");
 }
 
@@ -396,9 +586,10 @@ const watchedChange = (forwards) => watched ? change(watched.data, forwards) : s
 // what the step before this place changed: of which hart, which registers and bytes
 function lastChange() {
   if (place === first) return { rank: -1, hart: -1, registers: [], bytes: [] };
-  const [rank, hart, , , ...edits] = steps[place - 1 - first].split(\" \");
-  const of = (kind, base) => edits.filter((edit) => edit[0] === kind).map((edit) => parseInt(edit.slice(1), base));
-  return { rank: +rank, hart: +hart, registers: of(\"x\", 10), bytes: of(\"m\", 16) };
+  const registers = [], bytes = [];
+  readStep(place - 1 - first);
+  eachEdit((kind, at) => kind === \"x\" ? registers.push(at) : kind === \"m\" && bytes.push(at));
+  return { rank: read.rank, hart: read.hart, registers, bytes };
 }
 // an element with this text, marked as fresh, as the present line and so on
 function made(tag, text, kind) {
@@ -413,16 +604,23 @@ function link(text, deed) {
   return element;
 }
 const fill = (name, ...parts) => find(name).replaceChildren(...parts);
-const pcOf = (hart) => parseInt(hart.stand, 16);
+const pcOf = (hart) => parseInt(standAt(hart.stand), 16);
 const nameOf = (r, h) => \"rank \" + r + \" hart \" + h;
 
 const causes = [\"jump to a misaligned address\", \"jump out of the text\", \"illegal instruction\", \"breakpoint\",
   \"misaligned load\", \"load outside memory\", \"misaligned store\", \"store outside memory or into the text\"];
 
-function standing(hart) {
-  const [, pc, mode, number, at] = /^([0-9a-f]+)([wxt]?)(\\d*)\\.?([0-9a-f]*)$/.exec(hart.stand);
+// why a hart trapped, as `why` says it: a store failed since the stack is full if x2 is in the text, or below 0
+function causeOf(hart, number) {
+  const pointer = valueAt(hart.registers[2]);
+  const isFull = (pointer.length === 16 && pointer[0] > \"7\") || parseInt(pointer, 16) + 4 <= textEnd;
+  return number === \"7\" && isFull ? \"stack overflow\" : causes[number];
+}
+
+function toldOf(hart) {
+  const [, pc, mode, number, at] = /^([0-9a-f]+)([wxt]?)(\\d*)\\.?([0-9a-f]*)$/.exec(standAt(hart.stand));
   if (mode === \"x\") return \"ended \" + number;
-  if (mode === \"t\") return \"trapped \" + number + \" (\" + causes[number] + \") at \" + named(parseInt(at, 16));
+  if (mode === \"t\") return \"trapped \" + number + \" (\" + causeOf(hart, number) + \") at \" + named(parseInt(at, 16));
   return (mode === \"w\" ? \"waiting at \" : \"running at \") + named(parseInt(pc, 16));
 }
 
@@ -443,7 +641,7 @@ function showHarts(fresh) {
   ranks.forEach((rank, r) => rank.harts.forEach((hart, h) => {
     const moved = fresh.rank === r && fresh.hart === h;
     const chosen = shown.rank === r && shown.hart === h;
-    const line = made(\"button\", nameOf(r, h) + \" \" + standing(hart), (chosen ? \"chosen\" : \"\") + (moved ? \" fresh\" : \"\"));
+    const line = made(\"button\", nameOf(r, h) + \" \" + toldOf(hart), (chosen ? \"chosen\" : \"\") + (moved ? \" fresh\" : \"\"));
     line.onclick = () => { shown = { rank: r, hart: h }; show(); };
     all.push(line);
   }));
@@ -452,7 +650,7 @@ function showHarts(fresh) {
 
 function showRegisters(hart, fresh) {
   const mine = fresh.rank === shown.rank && fresh.hart === shown.hart;
-  fill(\"registers\", ...hart.registers.map((value, number) => {
+  fill(\"registers\", ...hart.registers.map(valueAt).map((value, number) => {
     const line = made(\"span\", \"\", mine && fresh.registers.includes(number) ? \"fresh\" : \"\");
     line.append(made(\"b\", NAMES[number].padEnd(5)), made(\"i\", (\"x\" + number).padEnd(4)));
     line.append(made(\"i\", \"0\".repeat(16 - value.length)), value);
@@ -492,8 +690,8 @@ function showMemory(memory, fresh) {
 }
 
 function showOutputs() {
-  const all = ranks.flatMap((rank, r) => rank.output === \"\" ? []
-    : [made(\"h3\", \"rank \" + r + \", \" + rank.output.length + \" bytes\"), made(\"pre\", printedLines(rank.output))]);
+  const all = ranks.flatMap((rank, r) => rank.put === 0 ? [] : [made(\"h3\", \"rank \" + r + \", \" + rank.put + \" bytes\"),
+    made(\"pre\", printedLines(new TextDecoder(\"latin1\").decode(rank.output.subarray(0, rank.put))))]);
   fill(\"outputs\", ...(all.length ? all : [\"nothing\"]));
 }
 
@@ -551,7 +749,7 @@ function showMark() {
 // where a hart stands and by which calls it came there, the innermost first
 function stackOf(hart) {
   const all = [pcOf(hart)];
-  for (let one = frames[hart.step]; one; one = one.up) all.push(one.back - 4);
+  for (let one = hart.step < 0 ? -1 : within[hart.step]; one >= 0; one = calls[one].up) all.push(calls[one].back - 4);
   return all;
 }
 
@@ -579,7 +777,7 @@ function drawSource(name) {
     line.append(made(\"span\", \"\", \"at\"), made(\"span\", String(n + 1).padStart(4), \"number\"), \" \" + text);
     line.onclick = () => {
       if (!stops.delete(at)) {
-        if (!begins.some((one) => lineBefore(one) === at)) return say(\"no step is of line \" + at);
+        if (!points.some((one) => one.line === at)) return say(\"no step is of line \" + at);
         stops.add(at);
       }
       line.classList.toggle(\"stop\", stops.has(at));
@@ -606,7 +804,7 @@ function showSource(at) {
   if (done === file && all[number - 1]) all[number - 1].classList.add(\"done\");
   ranks.forEach((rank, r) => rank.harts.forEach((hart, h) => {
     const [name, number] = stackOf(hart).map(lineAt).find((one) => one) || [];
-    if (name !== file || !all[number - 1] || /[xt]/.test(hart.stand)) return;
+    if (name !== file || !all[number - 1] || /[xt]/.test(standAt(hart.stand))) return;
     all[number - 1].firstChild.append(made(\"b\", rank.harts.length > 1 ? r + \".\" + h : r, \"r\" + r));
   }));
   const present = line && line[0] === file && all[line[1] - 1];
@@ -731,8 +929,8 @@ find(\"range\").textContent = first === 0 ? \"of \" + last : \"of \" + first + \
 find(\"place\").min = first;
 find(\"place\").max = last;
 find(\"names-known\").replaceChildren(...symbols.map((symbol) => new Option(symbol.name)));
-find(\"search-known\").replaceChildren(...[...new Set(known.values())].sort().map((line) => new Option(line)),
-  ...labels.filter((one) => entered.has(one.address)).map((one) => new Option(one.name)));
+find(\"search-known\").replaceChildren(...[...new Set(points.map((one) => one.line))].sort().map((line) => new Option(line)),
+  ...labels.filter((one) => known.has(one.address)).map((one) => new Option(one.name)));
 find(\"watch-known\").replaceChildren(...datas.map((one) => new Option(one.name)));
 fill(\"values\", ...mine.map((row) => row.line));
 fill(\"other-values\", ...others.map((row) => row.line));

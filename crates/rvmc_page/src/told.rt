@@ -7,7 +7,7 @@ ghost use Rattle.rvmc_page.specs.Told.{arrow_text, arrows_text, arrival_text, sy
 ghost use Rattle.rvmc_page.specs.Told.{wait_entry, wait_entries, way_text};
 
 use crate::safe::{put_escaped, put_lines};
-use rv_image::{Image, Symbol};
+use rv_image_types::{Image, Symbol};
 use rvmc_draw::{Arrow, Carried, Row, Spot};
 use rvmc_report::listing::listing;
 use std::alloc::Global;

@@ -1,8 +1,7 @@
 -- A step that was added, whatever its rank was before and after it.
 use Rattle.std.specs.Prelude.{ℕ, ◌≡◌, ◌+◌, nat_lt, if◌then◌else◌, Bool, true, false, List, [], ◌∷◌, ◌++◌, length, map, Some}
 use Rattle.std.proofs.Common.{refl, ap, ◌∙◌, subst}
-use Rattle.rv_hart.specs.State.{State}
-use Rattle.rv_image.specs.declared.images.Symbol.{Symbol}
+use Rattle.rv_image_types.specs.declared.images.Symbol.{Symbol}
 use Rattle.cl_machine.specs.declared.steps.Step.{Step}
 use Rattle.cl_state.specs.Rank.{Rank}
 use Rattle.cl_state.specs.declared.asking.Ask.{Ask}
@@ -12,8 +11,9 @@ use Rattle.rvmc_draw.specs.Walks.{Scope}
 use Rattle.rvmc_draw.specs.Held.{IsWalked, is_marked_in, tips_taken}
 use Rattle.rvmc_draw.specs.declared.deeds.Deed.{Deed}
 use Rattle.rvmc_draw.specs.declared.walks.Walk.{Walk}
-use Rattle.rvmc_list.specs.Lines.{hart_of, sight_of, sight_text}
-use Rattle.rvmc_list.specs.Seen.{seen}
+use Rattle.rvmc_sights.specs.Lines.{hart_of, sight_of, sight_text}
+use Rattle.rvmc_sights.specs.Seen.{after_of, seen}
+use Rattle.rvmc_sights.specs.declared.lines.After.{After}
 use Rattle.rvmc_picture.specs.Deeds.{IsDeedBy}
 use Rattle.rvmc_picture.specs.Walking.{IsBefore, IsPutAt}
 use Rattle.rvmc_picture.specs.declared.walking.Before.{Before}
@@ -35,32 +35,49 @@ tips_same walk d tip text marked = go (is_marked_in walk d) marked
         none false = refl
 
 -- what was seen of a step is its sight
-sight_same : (place : ℕ) (e : Step) (s t : Rank) (b : Before) (after : State) → IsBefore e s (Some b)
-    → after ≡ hart_of e t → seen place e b.seen after ≡ sight_of place e s t
+sight_same : (place : ℕ) (e : Step) (s t : Rank) (b : Before) (after : After) → IsBefore e s (Some b)
+    → after ≡ after_of e t → seen place e b.seen after ≡ sight_of place e s t
 sight_same place e s t b after known end =
-    ap (λ h. record { place = place; step = e; before = h; word = b.seen.word; box = b.seen.asks; after = after }) known.0.0
-    ∙ ap (λ w. record { place = place; step = e; before = hart_of e s; word = w; box = b.seen.asks; after = after })
-    known.0.1
+    ap (λ h. record {
+      place = place;
+      step = e;
+      before = h;
+      word = b.seen.word;
+      box = b.seen.asks;
+      after = after.hart;
+      overflow = after.overflow;
+    }) known.0.0
+    ∙ ap (λ w. record {
+      place = place;
+      step = e;
+      before = hart_of e s;
+      word = w;
+      box = b.seen.asks;
+      after = after.hart;
+      overflow = after.overflow;
+    }) known.0.1
     ∙ ap (λ x. record {
       place = place;
       step = e;
       before = hart_of e s;
       word = (sight_of place e s t).word;
       box = x;
-      after = after;
+      after = after.hart;
+      overflow = after.overflow;
     }) known.0.2
-    ∙ ap (λ h. record {
+    ∙ ap (λ (a : After). record {
       place = place;
       step = e;
       before = hart_of e s;
       word = (sight_of place e s t).word;
       box = (sight_of place e s t).box;
-      after = h;
+      after = a.hart;
+      overflow = a.overflow;
     }) end
 
-pub put_at : (symbols : List Symbol) (place : ℕ) (e : Step) (s t : Rank) (b : Before) (after : State) (old new : Walk)
-    → IsBefore e s (Some b) → after ≡ hart_of e t → (d : Deed) (next : ℕ) → next ≡ length old.board.lines.items + 1
-    → IsDeedBy place e b.ask b.seen.hart after next d
+pub put_at : (symbols : List Symbol) (place : ℕ) (e : Step) (s t : Rank) (b : Before) (after : After) (old new : Walk)
+    → IsBefore e s (Some b) → after ≡ after_of e t → (d : Deed) (next : ℕ) → next ≡ length old.board.lines.items + 1
+    → IsDeedBy place e b.ask b.seen.hart after.hart next d
     → ((scope : Scope) (deeds : List Deed) → IsWalked scope deeds old → IsWalked scope (deeds ++ d ∷ []) new)
     → (tip : List ℕ)
     → (is_marked_in old d ≡ true → tip ≡ sight_text symbols (seen d.spot.place e b.seen after))
@@ -70,8 +87,8 @@ put_at symbols place e s t b after old new known end d next next_is is walked ti
   deed = d;
   is = subst (λ (a : Ask). IsDeedBy place e a (hart_of e s) (hart_of e t) (length old.board.lines.items + 1) d) known.1
       (subst (λ h. IsDeedBy place e b.ask h (hart_of e t) (length old.board.lines.items + 1) d) known.0.0
-      (subst (λ h. IsDeedBy place e b.ask b.seen.hart h (length old.board.lines.items + 1) d) end
-      (subst (λ n. IsDeedBy place e b.ask b.seen.hart after n d) next_is is)));
+      (subst (λ (a : After). IsDeedBy place e b.ask b.seen.hart a.hart (length old.board.lines.items + 1) d) end
+      (subst (λ n. IsDeedBy place e b.ask b.seen.hart after.hart n d) next_is is)));
   walked = walked;
   tips = tips
       ∙ ap (λ l. map told_by old.marks.kept.items ++ l)

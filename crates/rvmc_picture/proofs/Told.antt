@@ -6,7 +6,7 @@ use Rattle.std.proofs.Common.{refl, sym, ap, ◌∙◌, subst, arith}
 use Rattle.std.proofs.lemmas.List.{length-append, length-map}
 use Rattle.std.proofs.lemmas.List.Elements.{All-append, All-cons, All-nil}
 use Rattle.std.proofs.lemmas.Option.{slice_get-map, slice_get_within}
-use Rattle.rv_image.specs.declared.images.ImageParts.{ImageParts}
+use Rattle.rv_image_types.specs.declared.images.ImageParts.{ImageParts}
 use Rattle.mp_match.proofs.OrderKept.{posts_pairs}
 use Rattle.mp_match.specs.PostPairs.{pairs}
 use Rattle.mp_match.specs.declared.posts.Line.{Line}
@@ -39,9 +39,9 @@ use Rattle.rvmc_draw.specs.declared.drawing.Shape.{Shape}
 use Rattle.rvmc_draw.specs.declared.views.View.{View}
 use Rattle.rvmc_draw.specs.declared.walks.Sizes.{Sizes}
 use Rattle.rvmc_draw.specs.declared.walks.Walk.{Walk}
-use Rattle.rvmc_list.proofs.Told.{IsSeen, each_more, seen_at}
-use Rattle.rvmc_list.specs.Lines.{hart_of, sight_of, sight_text}
-use Rattle.rvmc_list.specs.List.{IsSightAt}
+use Rattle.rvmc_sights.proofs.Sights.{IsSeen, each_more, seen_at}
+use Rattle.rvmc_sights.specs.Lines.{hart_of, sight_of, sight_text}
+use Rattle.rvmc_sights.specs.Sights.{IsSightAt}
 use Rattle.rvmc_picture.specs.Deeds.{IsDeedBy, ask_met}
 use Rattle.rvmc_picture.specs.Pictures.{AreArrows, AreDeeds, DrawFaultHolds, HasTooMany, IsDeedAt, IsDrawing, IsEndAt, IsTipOf}
 use Rattle.rvmc_picture.specs.Pictures.{arrows_in, arrows_with, is_past_end, scope_in}

@@ -22,8 +22,8 @@ use Rattle.cl_machine.specs.declared.steps.Step.{Step}
 use Rattle.rvmc_draw.specs.declared.deeds.Deed.{Deed}
 use Rattle.rvmc_draw.specs.declared.drawing.Shape.{Shape}
 use Rattle.rvmc_draw.specs.declared.drawing.Spot.{Spot}
-use Rattle.rvmc_list.specs.Gave.{is_refused}
-use Rattle.rvmc_list.specs.Lines.{box_in}
+use Rattle.rvmc_sights.specs.Gave.{is_refused}
+use Rattle.rvmc_sights.specs.Lines.{box_in}
 
 -- ---- messages and partitions
 

@@ -3,8 +3,8 @@ use Rattle.std.specs.Prelude.{ℕ, ◌≡◌, ◌<◌, ◌+◌, ◌*◌, ◌||�
 use Rattle.std.specs.Prelude.{slice_get, take, Option, Some, None, []}
 use Rattle.std.specs.List.{All, flat_map}
 use Rattle.std.specs.Option.{unwrap_or}
-use Rattle.rv_image.specs.declared.images.ImageParts.{ImageParts}
-use Rattle.rv_image.specs.declared.images.Link.{Link}
+use Rattle.rv_image_types.specs.declared.images.ImageParts.{ImageParts}
+use Rattle.rv_image_types.specs.declared.images.Link.{Link}
 use Rattle.mp_match.specs.PostPairs.{pairs}
 use Rattle.cl_state.specs.Asked.{asked}
 use Rattle.cl_state.specs.Rank.{Rank}
@@ -28,8 +28,8 @@ use Rattle.rvmc_draw.specs.declared.drawing.Row.{Row}
 use Rattle.rvmc_draw.specs.declared.parts.Untaken.{Untaken}
 use Rattle.rvmc_draw.specs.declared.views.View.{View}
 use Rattle.rvmc_draw.specs.declared.walks.Walk.{Walk}
-use Rattle.rvmc_list.specs.Lines.{Sight, hart_of, sight_text}
-use Rattle.rvmc_list.specs.List.{IsSightAt}
+use Rattle.rvmc_sights.specs.Lines.{Sight, hart_of, sight_text}
+use Rattle.rvmc_sights.specs.Sights.{IsSightAt}
 use Rattle.rvmc_picture.specs.Deeds.{IsDeedBy, ask_met}
 use Rattle.rvmc_picture.specs.Ends.{IsToldEnd}
 use Rattle.rvmc_picture.specs.declared.pictures.DrawFault.{DrawFault}

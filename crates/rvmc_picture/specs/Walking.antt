@@ -1,9 +1,9 @@
 -- How the steps of a record are walked through, one after another.
 use Rattle.std.specs.Prelude.{ℕ, ◌≡◌, ◌<◌, ◌≤◌, ◌+◌, List, [], ◌∷◌, ◌++◌, length, map, slice_get, Option, Some, None}
 use Rattle.std.specs.List.{All, flat_map}
-use Rattle.rv_image.specs.declared.images.ImageParts.{ImageParts}
-use Rattle.rv_image.specs.declared.images.Link.{Link}
-use Rattle.rv_image.specs.declared.images.Symbol.{Symbol}
+use Rattle.rv_image_types.specs.declared.images.ImageParts.{ImageParts}
+use Rattle.rv_image_types.specs.declared.images.Link.{Link}
+use Rattle.rv_image_types.specs.declared.images.Symbol.{Symbol}
 use Rattle.cl_machine.specs.declared.steps.Step.{Step}
 use Rattle.cl_replay.specs.InnerReplaying.{BreaksAt}
 use Rattle.cl_replay.specs.Replaying.{IsReached}
@@ -27,8 +27,8 @@ use Rattle.rvmc_draw.specs.declared.drawing.Row.{Row}
 use Rattle.rvmc_draw.specs.declared.parts.Untaken.{Untaken}
 use Rattle.rvmc_draw.specs.declared.views.View.{View}
 use Rattle.rvmc_draw.specs.declared.walks.Walk.{Walk}
-use Rattle.rvmc_list.specs.Lines.{hart_of, sight_of, sight_text}
-use Rattle.rvmc_list.specs.Seen.{IsSeenBefore}
+use Rattle.rvmc_sights.specs.Lines.{hart_of, sight_of, sight_text}
+use Rattle.rvmc_sights.specs.Seen.{IsSeenBefore}
 use Rattle.rvmc_picture.specs.Deeds.{IsDeedBy, ask_met}
 use Rattle.rvmc_picture.specs.Pictures.{AreDeeds, IsEndAt, IsTipOf, arrows_with, scope_in}
 use Rattle.rvmc_picture.specs.declared.pictures.DrawFault.{DrawFault}

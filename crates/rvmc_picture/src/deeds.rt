@@ -18,7 +18,7 @@ use mp_match::Post;
 use mp_types::{Message, Reply, Request};
 use rv_hart::{Hart, Mode};
 use rvmc_draw::{Deed, Shape, Spot, got_by, made_by};
-use rvmc_list::{BoxNumber, box_in, is_refused};
+use rvmc_sights::{BoxNumber, box_in, is_refused};
 use std::alloc::{AllocError, Global};
 
 /// What the hub is asked.

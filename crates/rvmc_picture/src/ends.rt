@@ -11,7 +11,7 @@ use crate::deeds::is_waiting;
 use cl_deadlock::deadlock;
 use cl_replay::ClusterState;
 use cl_state::RankState;
-use rv_image::{Image, ImageParts};
+use rv_image_types::{Image, ImageParts};
 use rvmc_draw::Row;
 use rvmc_inspect::{Wait, waits, why};
 use std::alloc::{AllocError, Global};

@@ -1,11 +1,15 @@
 //! What stands beside a mark: output, a code, why a call was refused or an instruction trapped, and a receive of any source.
 
+ghost use Rattle.std.specs.Prelude.{◌≡◌, ◌++◌, OnOk};
+ghost use Rattle.rvmc_picture.specs.Notes.{cause_note};
+
 use cl_calls::Call;
 use rv_decode::Reg;
 use rv_hart::{Hart, Mode};
 use rvmc_draw::{Deed, Shape, wildcard_in};
 use rvmc_inspect::call_name;
-use rvmc_places::cause_name;
+use rvmc_places::put_trapped;
+use rvmc_sights::After;
 use rvmc_stats::code_name;
 use std::alloc::Global;
 use std::io;
@@ -22,11 +26,13 @@ fn put_code(note: &mut Vec<u8>, mode: Mode) -> io::Result<()> {
     }
 }
 
-/// Adds why a hart trapped.
-fn put_cause(note: &mut Vec<u8>, mode: Mode) -> io::Result<()> {
-    match mode {
+/// Adds why a hart trapped, if it has.
+fn put_cause(note: &mut Vec<u8>, after: &After) -> io::Result<()>
+    ensures { OnOk result (note.new.items ≡ note.old.items ++ cause_note after.now.overflow after.now.hart.mode) }
+{
+    match after.hart.mode() {
         Mode::Trapped(cause, _) => {
-            note.extend_from_slice(cause_name(cause).as_bytes())?;
+            put_trapped(note, after.overflow, cause)?;
             Ok(())
         }
         _ => Ok(()),
@@ -58,15 +64,15 @@ pub(crate) fn note_of(
     alloc: Global,
     deed: &Deed,
     before: &Hart,
-    after: &Hart,
+    after: &After,
     out: &[u8],
 ) -> io::Result<Vec<u8>> {
     let mut note = Vec::new(alloc);
     match deed.shape {
         Some(Shape::Put) => note.extend_from_slice(&out[..out.len().min(SHOWN)])?,
-        Some(Shape::Exit) => put_code(&mut note, after.mode())?,
-        Some(Shape::Trap) => put_cause(&mut note, after.mode())?,
-        Some(Shape::Refused) => put_refused(&mut note, before, after)?,
+        Some(Shape::Exit) => put_code(&mut note, after.hart.mode())?,
+        Some(Shape::Trap) => put_cause(&mut note, after)?,
+        Some(Shape::Refused) => put_refused(&mut note, before, &after.hart)?,
         _ => put_wild(&mut note, deed, before)?,
     }
     Ok(note)

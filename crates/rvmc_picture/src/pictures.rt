@@ -15,7 +15,7 @@ use crate::ends::{End, end_of};
 use crate::walking::put_steps;
 use cl_machine::Step;
 use cl_replay::ClusterState;
-use rv_image::{Image, Link};
+use rv_image_types::{Image, Link};
 use rvmc_draw::{
     Arrow, Board, Carried, Drawing, MARKS_MAX, Sizes, Untaken, View, Walk, arrows_seen, bars_seen,
 };

@@ -8,9 +8,8 @@ ghost use Rattle.cl_state.specs.Room.{rank_of};
 ghost use Rattle.cl_state.specs.declared.state.RankState.{RankState as RankStateOf};
 ghost use Rattle.rvmc_draw.specs.Held.{is_marked_in};
 ghost use Rattle.rvmc_picture.specs.Pictures.{scope_in};
-ghost use Rattle.rvmc_list.specs.Lines.{hart_of, sight_text};
-ghost use Rattle.rvmc_list.specs.Putting.{IsHartAfter};
-ghost use Rattle.rvmc_list.specs.Seen.{seen};
+ghost use Rattle.rvmc_sights.specs.Lines.{sight_text};
+ghost use Rattle.rvmc_sights.specs.Seen.{after_of, seen};
 ghost use Rattle.rvmc_picture.specs.Deeds.{ask_met};
 ghost use Rattle.rvmc_picture.specs.Walking.{ArePut, IsBefore, IsLookedAt, IsPutAt, Puts, StepsBreak, StepBreaks};
 
@@ -21,10 +20,9 @@ use cl_machine::{KindRef, Step};
 use cl_replay::{ClusterState, StepFault};
 use cl_state::{Ask, RankState};
 use cl_trace::Bare;
-use rv_hart::Hart;
-use rv_image::{Image, Symbol};
+use rv_image_types::{Image, Symbol};
 use rvmc_draw::{Deed, View, Walk};
-use rvmc_list::{Seen, look, put_sight};
+use rvmc_sights::{After, Seen, look, look_again, put_sight};
 use std::alloc::{AllocError, Global};
 use std::io;
 
@@ -80,15 +78,6 @@ fn look_at(state: &ClusterState, step: &Step) -> Result<Option<Before>, AllocErr
     look_in(own, step)
 }
 
-/// A step's hart.
-fn hart_after(state: &ClusterState, step: &Step) -> Option<Hart>
-    ensures { IsHartAfter state.now step.now result }
-{
-    let own = state.ranks.get(usize::from(step.rank()))?;
-    let hart = own.harts.get(usize::from(step.hart()))?;
-    Some(*hart)
-}
-
 /// Does a step that stands at this place.
 fn advance(state: &mut ClusterState, place: u64, step: &Step) -> Result<(), DrawFault>
     ensures leads { OnOk result (Leads state.old step.now state.new) }
@@ -109,7 +98,7 @@ fn tip_of(
     symbols: &[Symbol],
     step: &Step,
     before: &Seen,
-    after: &Hart,
+    after: &After,
 ) -> io::Result<Vec<u8>>
     ensures { IfOk result (λ tip. is_marked_in walk.now deed.now ≡ true
         → tip.items ≡ sight_text symbols.now (seen deed.now.spot.place step.now before.now after.now)) }
@@ -144,11 +133,11 @@ fn put_deed(
     place: u64,
     step: &Step,
     before: &Before,
-    after: &Hart,
+    after: &After,
     out: &[u8],
 ) -> Result<(), DrawFault>
     requires fits { walk.old.marks.count < 2 ^ 64 - 1 }
-    ensures puts { OnOk result ((s t : Rank) → IsBefore step.now s (Some before.now) → after.now ≡ hart_of step.now t
+    ensures puts { OnOk result ((s t : Rank) → IsBefore step.now s (Some before.now) → after.now ≡ after_of step.now t
         → IsPutAt symbols.now place step.now s t walk.old walk.new) }
     ensures fault { IfErr result (λ fault. fault ≡ DrawFault.Memory) }
 {
@@ -159,7 +148,7 @@ fn put_deed(
         step,
         &before.ask,
         &before.seen.hart,
-        after,
+        &after.hart,
         next,
     )?;
     let tip = tip_of(alloc, walk, &deed, symbols, step, &before.seen, after)?;
@@ -188,7 +177,7 @@ fn put_behind(
     let Some(before) = before else {
         return Ok(());
     };
-    let Some(after) = hart_after(state, step) else {
+    let Some(after) = look_again(state, step) else {
         return Ok(());
     };
     let out = put_out(state, step, before.written);

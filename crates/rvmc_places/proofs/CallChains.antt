@@ -1,7 +1,7 @@
 -- Chains of frames, one more at a time.
 use Rattle.std.proofs.Common.{ℕ, zero, suc, ◌≡◌, ◌∙◌, ◌+◌, ◌-◌, ◌<◌, ◌≤◌, List, [], ◌∷◌, ◌++◌, refl, sym, ap, append-nil, append_assoc, arith}
 use Rattle.std.specs.Prelude.{Option, Some, None}
-use Rattle.rv_image.specs.declared.images.Symbol.{Symbol}
+use Rattle.rv_image_types.specs.declared.images.Symbol.{Symbol}
 use Rattle.rv_memory.specs.Memory.{Memory}
 use Rattle.rvmc_places.specs.Callers.{called_at, call_place, calls_text}
 use Rattle.rvmc_places.specs.Frames.{frame_above, frames_from}

@@ -2,7 +2,7 @@
 use Rattle.std.proofs.Common.{ℕ, ◌≡◌, ◌∙◌, ◌&&◌, Bool, true, false, cond, List, ◌∷◌, ap, refl}
 use Rattle.std.specs.Prelude.{Option, Some}
 use Rattle.std.specs.List.{filter}
-use Rattle.rv_image.specs.declared.images.Symbol.{Symbol}
+use Rattle.rv_image_types.specs.declared.images.Symbol.{Symbol}
 use Rattle.rvmc_places.specs.declared.near.Kind.{Kind}
 use Rattle.rvmc_places.specs.Places.{is_nearer, is_kind, nearest_from}
 

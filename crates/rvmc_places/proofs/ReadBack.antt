@@ -5,8 +5,8 @@ use Rattle.std.proofs.lemmas.Bool.{lt-ltb, le-ltb, le-leb}
 use Rattle.std.proofs.lemmas.Bool.Decides.{leb_tells}
 use Rattle.std.specs.Fmt.{digit_glyph, digits, digits_onto}
 use Rattle.std.specs.List.{AllByRecursion, filter, list_all}
-use Rattle.rv_image.specs.declared.images.Symbol.{Symbol}
-use Rattle.rv_image.specs.Names.{is_digit, is_name_byte, is_symbol_name, is_within}
+use Rattle.rv_image_types.specs.declared.images.Symbol.{Symbol}
+use Rattle.rv_image_types.specs.Names.{is_digit, is_name_byte, is_symbol_name, is_within}
 use Rattle.rvmc_places.specs.declared.near.Kind.{Kind}
 use Rattle.rvmc_places.specs.declared.near.Kind.TheVariants as kind
 use Rattle.rvmc_places.specs.Laws.{OneLineLaw}

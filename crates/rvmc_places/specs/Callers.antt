@@ -2,7 +2,7 @@
 use Rattle.std.specs.Prelude.{ℕ, ◌-◌, Bool, true, false, List, [], ◌++◌, codes}
 use Rattle.std.specs.List.{flat_map}
 use Rattle.rv_hart.specs.State.{State}
-use Rattle.rv_image.specs.declared.images.Symbol.{Symbol}
+use Rattle.rv_image_types.specs.declared.images.Symbol.{Symbol}
 use Rattle.rv_memory.specs.Memory.{Memory}
 use Rattle.rvmc_places.specs.Frames.{frames}
 use Rattle.rvmc_places.specs.declared.frames.Frame.{Frame}

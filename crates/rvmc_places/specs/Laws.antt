@@ -1,8 +1,8 @@
 -- What the text of a place tells.
 use Rattle.std.specs.Prelude.{ℕ, ◌≡◌, true, List}
 use Rattle.std.specs.List.{AllByRecursion}
-use Rattle.rv_image.specs.declared.images.Symbol.{Symbol}
-use Rattle.rv_image.specs.Names.{is_symbol_name}
+use Rattle.rv_image_types.specs.declared.images.Symbol.{Symbol}
+use Rattle.rv_image_types.specs.Names.{is_symbol_name}
 use Rattle.rvmc_places.specs.Places.{line_at, place_name}
 
 -- two places with one text have one line, or neither has one

@@ -3,7 +3,7 @@
 use Rattle.std.specs.Prelude.{ℕ, ◌+◌, ◌==◌, ◌&&◌, ◌||◌, not, if◌then◌else◌, Bool, true, false, List, [], ◌∷◌, drop, length, take}
 use Rattle.std.specs.Prelude.{Option, Some, None}
 use Rattle.std.specs.List.{list_all}
-use Rattle.rv_image.specs.Names.{is_digit, is_within}
+use Rattle.rv_image_types.specs.Names.{is_digit, is_within}
 
 -- ---- the parts between dots
 

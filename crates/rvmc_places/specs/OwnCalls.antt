@@ -1,7 +1,7 @@
 -- The call by which the program itself came to where a hart is in the library.
 use Rattle.std.specs.Prelude.{ℕ, if◌then◌else◌, Bool, false, true, List, [], ◌∷◌, ◌++◌, codes, Option, None, Some}
 use Rattle.rv_hart.specs.State.{State}
-use Rattle.rv_image.specs.declared.images.Symbol.{Symbol}
+use Rattle.rv_image_types.specs.declared.images.Symbol.{Symbol}
 use Rattle.rv_memory.specs.Memory.{Memory}
 use Rattle.rvmc_places.specs.Places.{is_some_line, line_at, named_address_text, nearest_of, place_name}
 use Rattle.rvmc_places.specs.declared.near.Kind.TheVariants as kind

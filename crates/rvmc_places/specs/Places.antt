@@ -4,7 +4,7 @@ use Rattle.std.specs.Prelude.{Option, Some, None, find, map, option_map}
 use Rattle.std.specs.Fmt.{digits}
 use Rattle.std.specs.List.{filter}
 use Rattle.std.specs.Str.{bytes_eq}
-use Rattle.rv_image.specs.declared.images.Symbol.{Symbol}
+use Rattle.rv_image_types.specs.declared.images.Symbol.{Symbol}
 use Rattle.rvmc_places.specs.declared.near.Kind.{Kind}
 use Rattle.rvmc_places.specs.declared.near.Kind.TheVariants as kind
 use Rattle.rvmc_places.specs.Names.{Line, line_named}

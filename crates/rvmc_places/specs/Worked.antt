@@ -1,7 +1,7 @@
 -- Worked names and places.
 use Rattle.std.specs.Prelude.{ℕ, ◌≡◌, List, [], ◌∷◌, codes, map, refl, Option, Some, None}
 use Rattle.std.specs.Fmt.{digits}
-use Rattle.rv_image.specs.declared.images.Symbol.{Symbol}
+use Rattle.rv_image_types.specs.declared.images.Symbol.{Symbol}
 use Rattle.rvmc_places.specs.Names.{Line, line_named}
 use Rattle.rvmc_places.specs.Places.{line_at, nearest_of, place_name, named_address_text}
 

@@ -1,7 +1,7 @@
 -- Worked calls by the program itself.
 use Rattle.std.specs.Prelude.{◌≡◌, ℕ, List, [], ◌∷◌, codes, refl, Option, None, Some}
 use Rattle.std.specs.Fmt.{digits}
-use Rattle.rv_image.specs.declared.images.Symbol.{Symbol}
+use Rattle.rv_image_types.specs.declared.images.Symbol.{Symbol}
 use Rattle.rvmc_places.specs.Names.{line_named}
 use Rattle.rvmc_places.specs.OwnCalls.{made_text, own_call_from, own_call_text}
 use Rattle.rvmc_places.specs.Places.{line_at, named_address_text, nearest_of, place_name}

@@ -7,7 +7,7 @@ ghost use Rattle.rvmc_places.specs.Frames.{frames};
 use crate::frames::{Frame, frame_above, own_frame};
 use crate::texts::put_name;
 use rv_hart::Hart;
-use rv_image::Symbol;
+use rv_image_types::Symbol;
 use rv_memory::RankMemory;
 use std::alloc::AllocError;
 

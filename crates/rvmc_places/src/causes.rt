@@ -1,15 +1,17 @@
 //! Why a hart trapped, as text.
 
-ghost use Rattle.std.specs.Prelude.{◌≡◌, IfOk, string_bytes};
-ghost use Rattle.rvmc_places.specs.Causes.{cause_name as cause_name_of, is_stack_full, store_cause, trap_name, trap_text};
+ghost use Rattle.std.specs.Prelude.{◌≡◌, ◌++◌, OnOk};
+ghost use Rattle.rvmc_places.specs.Causes.{cause_name as cause_name_of, has_overflowed, is_overflow, is_stack_full, trap_name};
+ghost use Rattle.rvmc_places.specs.Causes.{trap_text, trapped_text};
 
 use rv_decode::Reg;
-use rv_hart::Hart;
+use rv_hart::{Hart, Mode};
 use rv_memory::{Cause, RankMemory};
-use std::alloc::{AllocError, Global};
+use std::alloc::AllocError;
+use std::io::Write;
 
 /// The name of a trap's cause.
-pub fn cause_name(cause: Cause) -> &'static str
+fn cause_name(cause: Cause) -> &'static str
     ensures { result.now ≡ cause_name_of cause }
 {
     match cause {
@@ -32,37 +34,58 @@ fn is_stack_full(memory: &RankMemory, hart: &Hart) -> bool
     memory.text_word(pointer).is_some() || pointer >= 1 << 63
 }
 
-/// Why a store trapped: because the stack is full, or else by its cause.
-fn store_cause(full: bool) -> &'static str
-    ensures { result.now ≡ store_cause full }
-{
-    if full {
-        "stack overflow"
-    } else {
-        cause_name(Cause::StoreAccess)
-    }
-}
-
-/// Why a hart trapped.
-fn trap_name(memory: &RankMemory, hart: &Hart, cause: Cause) -> &'static str
-    ensures { result.now ≡ trap_name memory.now hart.now cause }
+/// Whether a store fails because the stack is full, of a hart that traps by this cause.
+fn is_overflow(memory: &RankMemory, hart: &Hart, cause: Cause) -> bool
+    ensures { result ≡ is_overflow memory.now hart.now cause }
 {
     match cause {
-        Cause::StoreAccess => store_cause(is_stack_full(memory, hart)),
-        _ => cause_name(cause),
+        Cause::StoreAccess => is_stack_full(memory, hart),
+        _ => false,
     }
 }
 
-/// The number and the name of the cause of a trap, as `trapped 7 (stack overflow) at `, before its place.
-pub fn trap_text(
-    alloc: Global,
+/// Whether a hart has trapped because its stack is full.
+pub fn has_overflowed(memory: &RankMemory, hart: &Hart) -> bool
+    ensures { result ≡ has_overflowed memory.now hart.now hart.now.mode }
+{
+    match hart.mode() {
+        Mode::Trapped(cause, _) => is_overflow(memory, hart, cause),
+        _ => false,
+    }
+}
+
+/// The name of a trap's cause, or that the stack is full.
+fn trap_name(overflow: bool, cause: Cause) -> &'static str
+    ensures { result.now ≡ trap_name overflow cause }
+{
+    if overflow {
+        "stack overflow"
+    } else {
+        cause_name(cause)
+    }
+}
+
+/// Adds the number and the name of the cause of a trap, as `trapped 7 (stack overflow)`. The only error is want of memory.
+pub fn put_trapped(text: &mut Vec<u8>, overflow: bool, cause: Cause) -> Result<(), AllocError>
+    ensures { OnOk result (text.new.items ≡ text.old.items ++ trapped_text overflow cause) }
+{
+    let number = cause.number();
+    let name = trap_name(overflow, cause);
+    match write!(text, "trapped {number} ({name})") {
+        Ok(()) => Ok(()),
+        Err(_) => Err(AllocError),
+    }
+}
+
+/// Adds why a hart trapped, before its place, as `trapped 7 (stack overflow) at `. The only error is want of memory.
+pub fn put_trap(
+    text: &mut Vec<u8>,
     memory: &RankMemory,
     hart: &Hart,
     cause: Cause,
-) -> Result<String, AllocError>
-    ensures { IfOk result (λ text. string_bytes text ≡ trap_text memory.now hart.now cause) }
+) -> Result<(), AllocError>
+    ensures { OnOk result (text.new.items ≡ text.old.items ++ trap_text memory.now hart.now cause) }
 {
-    let number = cause.number();
-    let name = trap_name(memory, hart, cause);
-    format!(in alloc; "trapped {number} ({name}) at ")
+    put_trapped(text, is_overflow(memory, hart, cause), cause)?;
+    text.extend_from_slice(b" at ")
 }

@@ -15,7 +15,7 @@ mod starts;
 mod texts;
 
 pub use callers::{put_callers, put_calls};
-pub use causes::{cause_name, trap_text};
+pub use causes::{has_overflowed, put_trap, put_trapped};
 pub use frames::{Frame, frame_above, own_frame};
 pub use laws::one_line_law;
 pub use names::{SourceLine, line_named};

@@ -2,7 +2,7 @@
 
 ghost use Rattle.std.specs.Prelude.{◌≡◌, ◌<◌, IfSome, length, option_map};
 ghost use Rattle.std.specs.List.{list_all};
-ghost use Rattle.rv_image.specs.Names.{is_digit};
+ghost use Rattle.rv_image_types.specs.Names.{is_digit};
 ghost use Rattle.rvmc_places.specs.Names as names;
 ghost use Rattle.rvmc_places.specs.Read.{both_of, read_of};
 

@@ -7,7 +7,7 @@ ghost use Rattle.rvmc_places.specs.Read.{read_of};
 ghost use Rattle.rvmc_places.specs.declared.near.Kind.TheVariants as kind;
 
 use crate::names::{SourceLine, line_named};
-use rv_image::Symbol;
+use rv_image_types::Symbol;
 
 /// What a symbol is.
 #[derive(Clone, Copy)]

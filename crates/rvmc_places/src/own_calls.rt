@@ -11,7 +11,7 @@ use crate::frames::{frame_above, own_frame};
 use crate::near::{line_at, nearest_label};
 use crate::texts::{put_name, put_place};
 use rv_hart::Hart;
-use rv_image::Symbol;
+use rv_image_types::Symbol;
 use rv_memory::RankMemory;
 use std::alloc::AllocError;
 

@@ -5,7 +5,7 @@ ghost use Rattle.rvmc_places.specs.Places.{begins_line, is_line, line_start, lin
 ghost use Rattle.rvmc_places.specs.Read.{read_of};
 
 use crate::names::{SourceLine, line_named};
-use rv_image::Symbol;
+use rv_image_types::Symbol;
 use std::alloc::{AllocError, Global};
 
 /// Whether a symbol is where a line begins.

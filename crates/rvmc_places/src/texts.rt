@@ -7,7 +7,7 @@ ghost use Rattle.rvmc_places.specs.Read.{read_of};
 
 use crate::names::SourceLine;
 use crate::near::{line_at, nearest_label};
-use rv_image::Symbol;
+use rv_image_types::Symbol;
 use std::alloc::AllocError;
 use std::io::Write;
 

@@ -5,9 +5,9 @@ use Rattle.std.specs.List.Sorted.{IsStrictlySortedBy}
 use Rattle.std.specs.Ordering.{nat_cmp}
 use Rattle.std.specs.Cmp.Lexicographic.{slice_cmp}
 use Rattle.std.specs.declared.cmp.Ordering.TheVariants.{Less}
-use Rattle.rv_image.specs.declared.images.Symbol.{Symbol}
-use Rattle.rv_image.specs.Image.{symbol_names}
-use Rattle.rv_image.specs.Names.{RisingNames}
+use Rattle.rv_image_types.specs.declared.images.Symbol.{Symbol}
+use Rattle.rv_image_types.specs.Image.{symbol_names}
+use Rattle.rv_image_types.specs.Names.{RisingNames}
 use Rattle.rvmc_report.specs.Listing.{name_line, symbols_at, word_line}
 use Rattle.rvmc_report.specs.Laws.{NamesRiseLaw, WordsAloneLaw}
 

@@ -1,9 +1,9 @@
 -- Laws of a listing.
 use Rattle.std.specs.Prelude.{◌≡◌, ℕ, ◌/◌, [], length}
 use Rattle.std.specs.List.{flat_map, range_with_len}
-use Rattle.rv_image.specs.declared.images.ImageParts.{ImageParts}
-use Rattle.rv_image.specs.Image.{IsImage, symbol_names}
-use Rattle.rv_image.specs.Names.{RisingNames}
+use Rattle.rv_image_types.specs.declared.images.ImageParts.{ImageParts}
+use Rattle.rv_image_types.specs.Image.{IsImage, symbol_names}
+use Rattle.rv_image_types.specs.Names.{RisingNames}
 use Rattle.rvmc_report.specs.Listing.{word_line, symbols_at, listing}
 
 -- an image without symbols is listed word by word, a line each

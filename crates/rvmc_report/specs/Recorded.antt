@@ -2,7 +2,7 @@
 use Rattle.std.specs.Prelude.{ℕ, ◌≡◌, Bool, List, [], ◌∷◌, length, map, if◌then◌else◌, Option, None, Some}
 use Rattle.std.specs.List.{enumerate_from, list_all}
 use Rattle.rv_hart.specs.State.{State}
-use Rattle.rv_image.specs.declared.images.ImageParts.{ImageParts}
+use Rattle.rv_image_types.specs.declared.images.ImageParts.{ImageParts}
 use Rattle.cl_machine.specs.Order.{of_rank}
 use Rattle.cl_machine.specs.declared.steps.Step.{Step}
 use Rattle.cl_rank.specs.Turns.{is_stopped}

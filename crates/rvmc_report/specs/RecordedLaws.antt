@@ -1,6 +1,6 @@
 -- What the report of a record has of the report of the run that left it.
 use Rattle.std.specs.Prelude.{ℕ, ◌≡◌, List, map}
-use Rattle.rv_image.specs.declared.images.ImageParts.{ImageParts}
+use Rattle.rv_image_types.specs.declared.images.ImageParts.{ImageParts}
 use Rattle.cl_machine.specs.Merge.{IsMerge}
 use Rattle.cl_machine.specs.declared.steps.Step.{Step}
 use Rattle.cl_record.specs.Records.{IsMergedRun, steps_in}

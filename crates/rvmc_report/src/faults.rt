@@ -59,8 +59,8 @@ pub enum DrawRefusal {
 #[derive(Clone, Copy, Debug, Drop, Error)]
 pub enum ExploreRefusal {
     /// There are fewer ends. Carries the number of the end whose record was asked for.
-    #[error("NoEnd {0}")]
-    NoEnd(u64),
+    #[error("NoOutcome {0}")]
+    NoOutcome(u64),
     /// The start is one of another image.
     #[error("OtherImage")]
     OtherImage,

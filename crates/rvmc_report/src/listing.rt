@@ -8,7 +8,7 @@ ghost use Rattle.rv_decode.specs.Decoded.{decoded};
 ghost use Rattle.rvmc_report.specs.Listing.{word_lines};
 
 use rv_decode::decode;
-use rv_image::{Image, ImageParts, Symbol};
+use rv_image_types::{Image, ImageParts, Symbol};
 use std::alloc::{AllocError, Global};
 use std::io;
 use std::io::Write;

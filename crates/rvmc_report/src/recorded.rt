@@ -12,7 +12,7 @@ use crate::report::{any_has_trapped, put_rank};
 use cl_rank::{RankState, Stop};
 use cl_replay::{ClusterState, ReplayFault, Step, replay};
 use rv_hart::{Hart, Mode};
-use rv_image::Image;
+use rv_image_types::Image;
 use std::alloc::{AllocError, Global};
 
 /// What is told of a record, and the status.

@@ -5,13 +5,13 @@ use Rattle.std.proofs.Math.Seq.{drop-append_seam, take-append_seam}
 use Rattle.std.proofs.lemmas.List.{append-nil}
 use Rattle.cl_machine.specs.declared.steps.Step.{Step}
 use Rattle.cl_text.specs.Reading.{reading_record}
-use Rattle.rv_image.specs.declared.images.ImageParts.{ImageParts}
+use Rattle.rv_image_types.specs.declared.images.ImageParts.{ImageParts}
 use Rattle.rvmc_gdb.proofs.Heard.{heard_law}
 use Rattle.rvmc_gdb.proofs.Walks.{joined}
 use Rattle.rvmc_gdb.specs.Serving.{Serving, opened}
 use Rattle.rvmc_gdb.specs.Talks.{Connection, MeetsTold, MeetsUnless, Serves, Takes, Talk, connected}
-use Rattle.rvmc_packets.specs.Reading.{next_place, told}
-use Rattle.rvmc_packets.specs.declared.reader.Message.{Message}
+use Rattle.rvmc_protocol.specs.Packets.Reading.{next_place, told}
+use Rattle.rvmc_protocol.specs.declared.packets.reader.Message.{Message}
 use Rattle.rvmc_serve.proofs.Ends.{end_law}
 use Rattle.rvmc_serve.specs.Laws.{AnswersLaw, QuietLaw}
 use Rattle.rvmc_serve.specs.Sessions.{DecidesAt, HearsAll, IsSession, IsStream, IsWhole, Reading}

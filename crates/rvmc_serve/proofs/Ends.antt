@@ -1,6 +1,6 @@
 -- The law of where a record ends.
-use Rattle.cl_front.specs.Laws.{EndLaw}
-use Rattle.cl_front.proofs.Ends as front
+use Rattle.cl_text.specs.Front.Laws.{EndLaw}
+use Rattle.cl_text.proofs.Fronts.Ends as front
 
 pub end_law : EndLaw
 end_law = front.end_law

@@ -3,9 +3,9 @@ use Rattle.std.specs.Prelude.{ℕ, ◌≡◌, ◌≢◌, ◌⊎◌, List, [], �
 use Rattle.std.proofs.Common.{refl, sym, ap, subst, ◌∙◌, append_assoc, inl, inr, take-append-drop}
 use Rattle.std.proofs.lemmas.List.{append-nil, length-take-le}
 use Rattle.std.specs.Io.KnownBytes.{Appends, Consumes, IsAtEnd}
-use Rattle.cl_front.specs.End.{record_end}
-use Rattle.cl_front.specs.Input.{IsFront}
-use Rattle.cl_front.specs.Laws.{EndLaw}
+use Rattle.cl_text.specs.Front.End.{record_end}
+use Rattle.cl_text.specs.Front.Input.{IsFront}
+use Rattle.cl_text.specs.Front.Laws.{EndLaw}
 use Rattle.cl_text.specs.Reading.{reading_record}
 use Rattle.rvmc_gdb.specs.Talks.{Connection}
 use Rattle.rvmc_report.specs.declared.faults.Fault.{Fault}

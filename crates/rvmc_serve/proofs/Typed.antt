@@ -3,11 +3,11 @@ use Rattle.std.specs.Prelude.{ℕ, ◌≡◌, ◌≢◌, List, [], ◌++◌, Opt
 use Rattle.std.proofs.Common.{refl, sym, subst, inl, inr}
 use Rattle.std.specs.Io.KnownBytes.{Appends, Consumes}
 use Rattle.cl_debug.specs.Debugging.{Debugging}
-use Rattle.cl_front.specs.Input.{IsFront}
+use Rattle.cl_text.specs.Front.Input.{IsFront}
 use Rattle.cl_machine.specs.declared.steps.Step.{Step}
-use Rattle.cl_replay.specs.Replays.{IsRunUpTo}
+use Rattle.rvmc_gdb.specs.Below.{IsRunUpTo}
 use Rattle.cl_text.specs.Reading.{reading_record}
-use Rattle.rv_image.specs.declared.images.ImageParts.{ImageParts}
+use Rattle.rv_image_types.specs.declared.images.ImageParts.{ImageParts}
 use Rattle.rvmc_report.specs.declared.faults.Fault.{Fault}
 use Rattle.rvmc_report.specs.declared.faults.Fault.TheVariants as faults
 use Rattle.rvmc_serve.proofs.Ends.{end_law}

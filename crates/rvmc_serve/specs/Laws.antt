@@ -4,14 +4,14 @@ use Rattle.cl_debug.specs.Debugging.{Debugging}
 use Rattle.cl_debug.specs.declared.faults.DebugFault.{DebugFault}
 use Rattle.cl_machine.specs.declared.steps.Step.{Step}
 use Rattle.cl_text.specs.Reading.{reading_record}
-use Rattle.rv_image.specs.declared.images.ImageParts.{ImageParts}
+use Rattle.rv_image_types.specs.declared.images.ImageParts.{ImageParts}
 use Rattle.rvmc_gdb.specs.Answers.{most}
 use Rattle.rvmc_gdb.specs.Serving.{opened}
 use Rattle.rvmc_gdb.specs.Talks.{Converses, Talk, talk_begun}
 use Rattle.rvmc_inspect.specs.Words.{IsTextOfWords}
-use Rattle.rvmc_monitor.specs.Lines.{words_in}
-use Rattle.rvmc_packets.specs.Frames.{Holds}
-use Rattle.rvmc_packets.specs.declared.reader.Message.{Message}
+use Rattle.rvmc_protocol.specs.Monitor.Lines.{words_in}
+use Rattle.rvmc_protocol.specs.Packets.Frames.{Holds}
+use Rattle.rvmc_protocol.specs.declared.packets.reader.Message.{Message}
 use Rattle.rvmc_serve.specs.Lines.{AnswersLine, AnswersLines, IsWordSession, lines_in, refusal_text}
 use Rattle.rvmc_serve.specs.Sessions.{IsSession}
 use Rattle.rvmc_words.specs.declared.debug.DebugWord.{DebugWord}

@@ -1,7 +1,7 @@
 -- What the code says of a session, step by step.
 use Rattle.std.specs.Prelude.{◌≡◌, ◌⊎◌, ⊤, Option, ℕ}
-use Rattle.cl_front.specs.declared.input.FrontFault.{FrontFault}
-use Rattle.cl_front.specs.declared.input.FrontFault.TheVariants as front
+use Rattle.cl_text.specs.declared.front.input.FrontFault.{FrontFault}
+use Rattle.cl_text.specs.declared.front.input.FrontFault.TheVariants as front
 use Rattle.rvmc_gdb.specs.Serving.{Serving}
 use Rattle.rvmc_gdb.specs.Talks.{Connection, connected}
 use Rattle.rvmc_report.specs.declared.faults.Fault.{Fault}

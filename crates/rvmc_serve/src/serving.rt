@@ -3,7 +3,7 @@
 ghost use Rattle.std.specs.Prelude.{◌≡◌, ◌≢◌, ◌<◌, ◌≤◌, ◌+◌, ◌++◌, IfErr, IfOk, List, None, OnOk, Option, Some, length, ⊤, ℕ};
 ghost use Rattle.std.specs.Option.{unwrap_or};
 ghost use Rattle.std.specs.Io.KnownBytes.{Appends, Consumes, Keeps};
-ghost use Rattle.cl_front.specs.Input.{IsFront};
+ghost use Rattle.cl_text.specs.Front.Input.{IsFront};
 ghost use Rattle.cl_debug.specs.declared.faults.DebugFault.TheVariants.{NoRank};
 ghost use Rattle.cl_text.specs.Reading.{reading_record};
 ghost use Rattle.rvmc_gdb.specs.Serving.{opened as opened_at};
@@ -14,7 +14,7 @@ ghost use Rattle.rvmc_serve.specs.Serving.{CutsShort, IsFaultOf, IsOfFront, IsOp
 ghost use Rattle.rvmc_serve.specs.Sessions.{HearsAll, HearsSome, IsSession};
 
 use cl_debug::{DebugFault, Debugger};
-use cl_front::{Front, FrontFault, read_front};
+use cl_text::front::{Front, FrontFault, read_front};
 use cl_text::read_record;
 use rvmc_gdb::{Flow, Server, Session};
 use rvmc_report::faults::Fault;

@@ -9,7 +9,7 @@ use crate::serving::put;
 use cl_debug::{DebugFault, Debugger};
 use rvmc_gdb::refusal;
 use rvmc_inspect::tell_all;
-use rvmc_monitor::words_in;
+use rvmc_protocol::monitor::words_in;
 use rvmc_report::faults::Fault;
 use rvmc_words::DebugWords;
 use std::alloc::{AllocError, Global};

@@ -12,7 +12,7 @@ ghost use Rattle.rvmc_serve.specs.Typing.{HearsAll, HearsSome, IsBegunAs};
 use crate::serving::{MOST, Refused, front_of};
 use crate::typing::Typing;
 use cl_debug::Debugger;
-use cl_front::Front;
+use cl_text::front::Front;
 use cl_text::read_record;
 use rvmc_report::faults::Fault;
 use std::alloc::Global;

@@ -90,11 +90,11 @@ more_words status false = refl
 more_words status true = refl
 
 counts_words : (ends : ℕ) (part : Part) → ends < 2 ^ 64 → part.states < 2 ^ 64 → part.left < 2 ^ 64 → part.status < 256
-    → cut 32 (counts_line ends part) ≡ decimal ends ∷ codes "ends," ∷ decimal part.states ∷ codes "states," ∷ decimal part.left ∷ codes "left," ∷ codes "status" ∷ last_words part.status part.unending
+    → cut 32 (counts_line ends part) ≡ decimal ends ∷ codes "outcomes," ∷ decimal part.states ∷ codes "states," ∷ decimal part.left ∷ codes "left," ∷ codes "status" ∷ last_words part.status part.unending
 counts_words ends part one two three four =
-    ap (λ last. cut 32 (decimal ends ++ (codes " ends, " ++ (decimal part.states ++ (codes " states, " ++ (decimal part.left ++ (codes " left, " ++ last)))))))
+    ap (λ last. cut 32 (decimal ends ++ (codes " outcomes, " ++ (decimal part.states ++ (codes " states, " ++ (decimal part.left ++ (codes " left, " ++ last)))))))
     (sym (more_words part.status part.unending ∙ ap (λ last. codes "status " ++ last) (last_back part.status part.unending four)))
-    ∙ cut_words 32 (decimal ends) (codes "ends," ∷ decimal part.states ∷ codes "states," ∷ decimal part.left ∷ codes "left," ∷ codes "status" ∷ last_words part.status part.unending) (
+    ∙ cut_words 32 (decimal ends) (codes "outcomes," ∷ decimal part.states ∷ codes "states," ∷ decimal part.left ∷ codes "left," ∷ codes "status" ∷ last_words part.status part.unending) (
       lacks_decimal 32 ends one (omega arith),
       (
         refl,
@@ -123,7 +123,7 @@ counts_back ends part one two three four =
     status : number_in 0 255 (decimal part.status) ≡ Some part.status
     status = number_back 0 255 part.status (omega arith) (omega (arith, four)) (omega (arith, four))
 
-    go : (unending : Bool) → counts_with (decimal ends ∷ codes "ends," ∷ decimal part.states ∷ codes "states," ∷ decimal part.left ∷ codes "left," ∷ codes "status" ∷ last_words part.status unending)
+    go : (unending : Bool) → counts_with (decimal ends ∷ codes "outcomes," ∷ decimal part.states ∷ codes "states," ∷ decimal part.left ∷ codes "left," ∷ codes "status" ∷ last_words part.status unending)
         ≡ Some (record { ends = ends; states = part.states; left = part.left; status = part.status; unending = unending })
     go false = rw (cut_none 44 (decimal part.status) digits, status, any_back ends one, any_back part.states two, any_back part.left three) refl
     go true = rw (cut_at 44 (decimal part.status) [] digits, status, any_back ends one, any_back part.states two, any_back part.left three) refl

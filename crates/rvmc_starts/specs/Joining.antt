@@ -42,10 +42,10 @@ kept_ends parts = fold with_end [] (flat_map ends_of parts)
 
 -- ---- their text
 
--- `end 3: end 1 of start 2`, and the text
+-- `outcome 3: outcome 1 of start 2`, and the text
 abbrev pub told_text : ℕ → ToldEnd → List ℕ
 told_text number end =
-    codes "end " ++ (decimal number ++ (codes ": end " ++ (decimal end.name.number
+    codes "outcome " ++ (decimal number ++ (codes ": outcome " ++ (decimal end.name.number
     ++ (codes " of start " ++ (decimal end.name.start ++ (codes "\n" ++ end.body))))))
 
 -- the first has this number
@@ -55,7 +55,7 @@ told_texts number (end ∷ ends) = told_text number end ++ told_texts (number + 
 
 -- `no other end` only where each start is told whole
 abbrev pub verdict : Option ℕ → List ℕ
-verdict None = codes "no other end"
+verdict None = codes "no other outcome"
 verdict (Some start) = codes "not all: start " ++ (decimal start ++ codes " isn't told whole")
 
 -- `3 ends of 45 states of 12 starts: no other end`

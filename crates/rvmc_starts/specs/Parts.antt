@@ -24,10 +24,10 @@ image_line image harts = codes "image " ++ (sum_text image ++ (codes " harts " +
 abbrev pub counts_end : Bool → List ℕ
 counts_end unending = if unending then codes ", for ever" else []
 
--- `2 ends, 20 states, 0 left, status 7`, and `, for ever` where some runs go on
+-- `2 outcomes, 20 states, 0 left, status 7`, and `, for ever` where some runs go on
 abbrev pub counts_line : ℕ → Part → List ℕ
 counts_line ends part =
-    decimal ends ++ (codes " ends, " ++ (decimal part.states ++ (codes " states, " ++ (decimal part.left ++ (codes " left, status "
+    decimal ends ++ (codes " outcomes, " ++ (decimal part.states ++ (codes " states, " ++ (decimal part.left ++ (codes " left, status "
     ++ (decimal part.status ++ counts_end part.unending))))))
 
 -- ---- the ends
@@ -38,11 +38,11 @@ end_text end = end.head ++ 10 ∷ (decimal (length end.body) ++ (codes " bytes\n
 
 -- ---- what stands below them
 
--- `: no other end from start 3 of 12` only where no state is left
+-- `: no other outcome from start 3 of 12` only where no state is left
 abbrev pub verdict_of_part : Part → List ℕ
 verdict_of_part part =
     if (part.left == 0)
-    then codes ": no other end from start " ++ (decimal part.number ++ (codes " of " ++ decimal part.count))
+    then codes ": no other outcome from start " ++ (decimal part.number ++ (codes " of " ++ decimal part.count))
     else (codes ": not all from start " ++ (decimal part.number ++ (codes " of " ++ (decimal part.count ++ (codes ": " ++ (decimal part.left ++ codes " states are left"))))))
 
 -- ---- the whole

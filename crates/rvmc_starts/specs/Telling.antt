@@ -7,9 +7,9 @@ abbrev pub count_text : ℕ → List ℕ → List ℕ
 count_text count word =
     if (count == 1) then codes "1 " ++ word else (decimal count ++ (codes " " ++ (word ++ codes "s")))
 
--- `2 ends of 20 states`
+-- `2 outcomes of 20 states`
 abbrev pub summary : ℕ → ℕ → List ℕ
-summary ends states = count_text ends (codes "end") ++ (codes " of " ++ count_text states (codes "state"))
+summary ends states = count_text ends (codes "outcome") ++ (codes " of " ++ count_text states (codes "state"))
 
 -- where some runs go on for ever
 abbrev pub unending_line : Bool → List ℕ

@@ -115,7 +115,7 @@ fn put_told(
 {
     let of_start = end.name.number;
     let start = end.name.start;
-    let head = format!(in alloc; "end {number}: end {of_start} of start {start}\n")?;
+    let head = format!(in alloc; "outcome {number}: outcome {of_start} of start {start}\n")?;
     text.extend_from_slice(head.as_bytes())?;
     text.extend_from_slice(end.body.as_slice())?;
     Ok(())
@@ -141,17 +141,17 @@ fn all_states(parts: &[&Part]) -> u128
     sum
 }
 
-/// Whether these are all ends, or which start isn't told whole.
+/// Whether these are all outcomes, or which start isn't told whole.
 fn verdict(alloc: Global, lacking: Option<u64>) -> Result<String, AllocError>
     ensures { IfOk result (λ text. string_bytes text ≡ verdict lacking) }
 {
     match lacking {
-        None => format!(in alloc; "no other end"),
+        None => format!(in alloc; "no other outcome"),
         Some(start) => format!(in alloc; "not all: start {start} isn't told whole"),
     }
 }
 
-/// The last line: `3 ends of 45 states of 12 starts: no other end`.
+/// The last line: `3 outcomes of 45 states of 12 starts: no other outcome`.
 fn last_line(alloc: Global, found: &Found) -> Result<String, AllocError>
     ensures { IfOk result (λ text. string_bytes text ≡ last_line found.now) }
 {

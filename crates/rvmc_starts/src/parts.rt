@@ -150,7 +150,7 @@ fn counts_end(unending: bool) -> &'static str
     if unending { ", for ever" } else { "" }
 }
 
-/// Adds the line of the counts: `2 ends, 20 states, 0 left, status 7`, and `, for ever` where some runs go on.
+/// Adds the line of the counts: `2 outcomes, 20 states, 0 left, status 7`, and `, for ever` where some runs go on.
 fn put_counts_line(alloc: Global, text: &mut Vec<u8>, part: &Part) -> Result<(), AllocError>
     ensures { OnOk result
         (text.new.items ≡ text.old.items ++ (counts_line (length part.now.ends) part.now ++ 10 ∷ [])) }
@@ -161,9 +161,10 @@ fn put_counts_line(alloc: Global, text: &mut Vec<u8>, part: &Part) -> Result<(),
     let status = part.status;
     let last = counts_end(part.unending);
     let words = format!(in alloc;
-        "{ends} ends, {states} states, {left} left, status {status}{last}\n"
+        "{ends} outcomes, {states} states, {left} left, status {status}{last}"
     )?;
     text.extend_from_slice(words.as_bytes())?;
+    text.push(b'\n')?;
     Ok(())
 }
 
@@ -204,13 +205,13 @@ fn verdict_of_part(alloc: Global, part: &Part) -> Result<String, AllocError>
     let count = part.count;
     let left = part.left;
     if left == 0 {
-        format!(in alloc; ": no other end from start {number} of {count}")
+        format!(in alloc; ": no other outcome from start {number} of {count}")
     } else {
         format!(in alloc; ": not all from start {number} of {count}: {left} states are left")
     }
 }
 
-/// Adds the last line: `2 ends of 20 states: no other end from start 3 of 12`.
+/// Adds the last line: `2 outcomes of 20 states: no other outcome from start 3 of 12`.
 fn put_last_line(alloc: Global, text: &mut Vec<u8>, part: &Part) -> Result<(), AllocError>
     ensures { OnOk result (text.new.items
         ≡ text.old.items ++ (summary (length part.now.ends) part.now.states ++ (verdict_of_part part.now ++ 10 ∷ []))) }

@@ -16,11 +16,11 @@ pub(crate) fn counted(alloc: Global, count: u128, word: &str) -> Result<String, 
     }
 }
 
-/// `2 ends of 20 states`.
+/// `2 outcomes of 20 states`.
 pub(crate) fn summary(alloc: Global, ends: u64, states: u128) -> Result<String, AllocError>
     ensures { IfOk result (λ text. string_bytes text ≡ summary ends states) }
 {
-    let ends = counted(alloc, u128::from(ends), "end")?;
+    let ends = counted(alloc, u128::from(ends), "outcome")?;
     let states = counted(alloc, states, "state")?;
     format!(in alloc; "{ends} of {states}")
 }

@@ -1,3 +1,4 @@
+pub mod Tallying
 pub mod Ranges
 pub mod Counters
 pub mod Mails

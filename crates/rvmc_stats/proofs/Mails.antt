@@ -6,9 +6,9 @@ use Rattle.std.proofs.Common.{refl, sym, ap, ◌∙◌, subst, append_assoc, app
 use Rattle.std.proofs.lemmas.List.{map-append, take_more}
 use Rattle.std.proofs.lemmas.List.Elements.{filter_map-append}
 use Rattle.mp_types.specs.declared.messages.Message.{Message}
-use Rattle.rvmc_tally.proofs.Counting.{grid_more, grid_none}
-use Rattle.rvmc_tally.specs.Counts.{IsGrid}
-use Rattle.rvmc_tally.specs.Adding.{added_in}
+use Rattle.rvmc_stats.proofs.Tallying.{grid_more, grid_none}
+use Rattle.rvmc_stats.specs.Counts.{IsGrid}
+use Rattle.rvmc_stats.specs.MoreAt.{added_in}
 use Rattle.rvmc_stats.proofs.Counters.{both, count_more, sum_more}
 use Rattle.rvmc_stats.specs.Counted.{Received, bytes_between, is_from_to, messages_of, received_by, size_in_bytes}
 use Rattle.rvmc_stats.specs.Tables.{AreOfMail}

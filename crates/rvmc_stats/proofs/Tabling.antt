@@ -4,9 +4,9 @@ use Rattle.std.specs.Prelude.{◌∷◌, ◌++◌, replicate}
 use Rattle.std.proofs.Common.{refl, sym, ap, ◌∙◌, subst, append-nil, arith}
 use Rattle.std.proofs.lemmas.Grind.{flat_map-append}
 use Rattle.cl_calls.specs.Calls.{call_named}
-use Rattle.rvmc_tally.proofs.Counting.{grid_more, grid_none, grid_same, tally_more, tally_none, tally_same}
-use Rattle.rvmc_tally.specs.Counts.{IsGrid, IsTally}
-use Rattle.rvmc_tally.specs.Adding.{added, added_in}
+use Rattle.rvmc_stats.proofs.Tallying.{grid_more, grid_none, grid_same, tally_more, tally_none, tally_same}
+use Rattle.rvmc_stats.specs.Counts.{IsGrid, IsTally}
+use Rattle.rvmc_stats.specs.MoreAt.{added, added_in}
 use Rattle.rvmc_stats.proofs.Counters.{both, count_more, no_word, word_is}
 use Rattle.rvmc_stats.specs.Counted.{Taken, call_number, calls_made, is_at, is_call, is_stopped_turn, is_made, is_turn_by, is_turn}
 use Rattle.rvmc_stats.specs.Counted.{is_wait, is_waiting_turn, kind_place, messages_by_kind, outcome_place, all_received}

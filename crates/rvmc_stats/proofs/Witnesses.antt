@@ -11,8 +11,8 @@ use Rattle.rv_hart.specs.declared.state.Mode.TheVariants.{Waiting}
 use Rattle.rv_hart.specs.declared.state.Wait.{Wait}
 use Rattle.cl_calls.specs.Calls.{call_named}
 use Rattle.cl_trace.specs.declared.events.Kind.{Kind}
-use Rattle.rvmc_tally.specs.Hottest.{AreHottest, is_hotter}
-use Rattle.rvmc_tally.specs.Tallies.{capped, cell_at, count_at}
+use Rattle.rvmc_stats.specs.Hottest.{AreHottest, is_hotter}
+use Rattle.rvmc_stats.specs.Tallies.{capped, cell_at, count_at}
 use Rattle.rvmc_stats.specs.Counted.{Received, Taken, all_received, bytes_between, call_number, calls_made, is_call}
 use Rattle.rvmc_stats.specs.Counted.{is_from_to, is_made, is_turn_by, messages_by_kind, messages_of, outcome_place}
 use Rattle.rvmc_stats.specs.Counted.{received_by, received_in, size_in_bytes}

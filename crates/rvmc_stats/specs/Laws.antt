@@ -7,8 +7,8 @@ use Rattle.mp_types.specs.declared.replies.Reply.TheVariants as reply
 use Rattle.rv_hart.specs.declared.state.Mode.TheVariants.{Waiting}
 use Rattle.rv_hart.specs.declared.state.Wait.{Wait}
 use Rattle.cl_trace.specs.declared.events.Kind.{Kind}
-use Rattle.rvmc_tally.specs.Hottest.{AreHottest}
-use Rattle.rvmc_tally.specs.Tallies.{capped, cell_at, count_at}
+use Rattle.rvmc_stats.specs.Hottest.{AreHottest}
+use Rattle.rvmc_stats.specs.Tallies.{capped, cell_at, count_at}
 use Rattle.rvmc_stats.specs.Adding.{Adds}
 use Rattle.rvmc_stats.specs.Counted.{Taken, all_received, bytes_between, taken_by, turns_of}
 use Rattle.rvmc_stats.specs.Tables.{AreOf}

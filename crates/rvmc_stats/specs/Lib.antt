@@ -1,3 +1,7 @@
+pub mod Tallies
+pub mod MoreAt
+pub mod Counts
+pub mod Hottest
 pub mod Names
 pub mod Counted
 pub mod Tables

@@ -1,6 +1,6 @@
 -- The tables of steps.
 use Rattle.std.specs.Prelude.{ℕ, List}
-use Rattle.rvmc_tally.specs.Counts.{IsGrid, IsTally}
+use Rattle.rvmc_stats.specs.Counts.{IsGrid, IsTally}
 use Rattle.rvmc_stats.specs.Counted.{Received, Taken, bytes_between, calls_made, messages_of, all_received, taken_by, turns_at}
 use Rattle.rvmc_stats.specs.Counted.{turns_of, waits_of}
 use Rattle.rvmc_stats.specs.declared.mail.Mail.{Mail}

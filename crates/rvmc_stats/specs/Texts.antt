@@ -2,7 +2,7 @@
 use Rattle.std.specs.Prelude.{ℕ, ◌==◌, if◌then◌else◌, List, [], ◌∷◌, ◌++◌, codes, length}
 use Rattle.std.specs.Fmt.{decimal}
 use Rattle.std.specs.List.{flat_map, range_with_len}
-use Rattle.rvmc_tally.specs.Tallies.{cell_at, count_at}
+use Rattle.rvmc_stats.specs.Tallies.{cell_at, count_at}
 use Rattle.rvmc_stats.specs.Names.{named_call, outcome_name}
 use Rattle.rvmc_stats.specs.declared.mail.Mail.{Mail}
 use Rattle.rvmc_stats.specs.declared.tables.Tables.{Tables}

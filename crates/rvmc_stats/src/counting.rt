@@ -5,14 +5,15 @@ ghost use Rattle.cl_calls.specs.Calls.{call_named};
 ghost use Rattle.rvmc_stats.specs.Counted.{call_number as call_number_of, is_call as is_call_of, is_stopped_turn as is_idle_of};
 ghost use Rattle.rvmc_stats.specs.Counted.{is_wait as is_wait_of, kind_place as kind_place_of};
 ghost use Rattle.rvmc_stats.specs.Counted.{outcome_place as outcome_place_of};
-ghost use Rattle.rvmc_tally.specs.Adding.{added, added_in};
+ghost use Rattle.rvmc_stats.specs.MoreAt.{added, added_in};
 
 use crate::calls::{call_number, outcome_place};
+use crate::grid::Grid;
 use crate::kinds::{is_call, is_idle, is_wait, kind_place};
+use crate::tally::Tally;
 use cl_calls::Call;
 use cl_machine::Step;
 use rv_hart::Hart;
-use rvmc_tally::{Grid, Tally};
 
 /// Counts a turn by its rank and its kind.
 pub(crate) fn count_turn(turns: &mut Grid, step: &Step)

@@ -2,7 +2,7 @@
 
 ghost use Rattle.std.specs.Prelude.{◌≡◌, ◌++◌, OnOk, codes};
 ghost use Rattle.std.specs.Fmt.{decimal};
-ghost use Rattle.rvmc_tally.specs.Tallies.{count_at};
+ghost use Rattle.rvmc_stats.specs.Tallies.{count_at};
 ghost use Rattle.rvmc_stats.specs.Texts.{call_line, column_text, columns_text, pair_line, turn_line};
 
 use crate::mail::Mail;

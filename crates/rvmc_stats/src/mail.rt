@@ -6,9 +6,9 @@ ghost use Rattle.rvmc_stats.specs.Counted.{messages_by_kind, messages_by_reply, 
 ghost use Rattle.rvmc_stats.specs.Tables.{AreOfMail};
 ghost use Rattle.rvmc_stats.specs.Adding.{AddsMail};
 
+use crate::grid::Grid;
 use cl_machine::{KindRef, Step};
 use mp_types::{Message, Reply};
-use rvmc_tally::Grid;
 use std::alloc::{AllocError, Global};
 
 /// How many messages of each rank each other received, and how many bytes they have: a row a sender, a column a receiver.

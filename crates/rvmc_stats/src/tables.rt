@@ -6,10 +6,11 @@ ghost use Rattle.rvmc_stats.specs.Tables.{AreOf};
 ghost use Rattle.rvmc_stats.specs.Adding.{Adds};
 
 use crate::counting::{count_call, count_place, count_taken, count_turn, count_wait};
+use crate::grid::Grid;
 use crate::mail::Mail;
+use crate::tally::Tally;
 use cl_machine::Step;
 use rv_hart::Hart;
-use rvmc_tally::{Grid, Tally};
 use std::alloc::{AllocError, Global};
 
 /// What steps are counted by.

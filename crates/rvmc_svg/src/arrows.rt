@@ -9,7 +9,7 @@ use crate::layout::{Layout, TOP, rank_at};
 use crate::marks::put_titled;
 use crate::pieces::Piece::{Across, Number, Rank, Words};
 use crate::pieces::put;
-use rvmc_draw::{Arrow, Carried, Drawing, Spot};
+use rvmc_draw::{Arrow, Carried, Spot};
 use std::alloc::Global;
 use std::io;
 use std::io::Write;
@@ -29,20 +29,12 @@ const HEADS: &str = "\
 <marker id=\"o{}\" refX=\"8\" refY=\"4\" markerWidth=\"9\" markerHeight=\"8\" markerUnits=\"userSpaceOnUse\" orient=\"auto\"><path class=\"s{} none\" d=\"M1,.8L8,4L1,7.2\"/></marker>
 ";
 
-/// Adds them.
-fn put_both(text: &mut Vec<u8>, rank: u8) -> io::Result<()> {
-    put(
-        text,
-        HEADS,
-        &[Rank(rank), Rank(rank), Rank(rank), Rank(rank)],
-    )
-}
-
 /// Adds the heads that each sender's arrows have.
 pub(crate) fn put_heads(text: &mut Vec<u8>, ranks: u8) -> io::Result<()> {
     put(text, "<defs>\n", &[])?;
     for rank in 0..ranks {
-        put_both(text, rank)?;
+        let rank = Rank(rank);
+        put(text, HEADS, &[rank, rank, rank, rank])?;
     }
     put(text, "</defs>\n", &[])
 }
@@ -106,82 +98,24 @@ fn put_title(text: &mut Vec<u8>, arrow: &Arrow) -> io::Result<()>
     put_rest(text, arrow)
 }
 
-/// How its line is drawn.
-fn class_of(arrow: &Arrow) -> &'static str {
+/// The end of a line's shape: with the closed head of a sender, with its open head, and without a head.
+const CLOSED: &str = " marker-end=\"url(#h{})\"/>";
+
+const OPEN: &str = " marker-end=\"url(#o{})\"/>";
+
+const BARE: &str = "/>";
+
+/// How an arrow's line is drawn, and its end: closed where it was got, open where nobody got it, none where it could have
+/// been.
+fn drawn_as(arrow: &Arrow) -> (&'static str, &'static str) {
+    let got = arrow.to.is_some();
+    let head = if got { CLOSED } else { OPEN };
     match arrow.carried {
-        Carried::Could { .. } => "a thin far",
-        Carried::Claim { .. } => "a thin claim",
-        Carried::Partition { .. } => {
-            if arrow.to.is_none() {
-                "a part lost"
-            } else {
-                "a part"
-            }
-        }
-        Carried::Message { .. } => { if arrow.to.is_none() { "a lost" } else { "a" } }
+        Carried::Could { .. } => ("a thin far", BARE),
+        Carried::Claim { .. } => ("a thin claim", head),
+        Carried::Partition { .. } => (if got { "a part" } else { "a part lost" }, head),
+        Carried::Message { .. } => (if got { "a" } else { "a lost" }, head),
     }
-}
-
-/// Its head: closed where it was got, open where nobody got it, none where it could have been.
-fn head_of(arrow: &Arrow) -> &'static str {
-    match arrow.carried {
-        Carried::Could { .. } => "",
-        _ => { if arrow.to.is_none() { "o" } else { "h" } }
-    }
-}
-
-/// Adds the head's name, and the end of the shape that has it.
-fn put_head(text: &mut Vec<u8>, arrow: &Arrow) -> io::Result<()> {
-    let head = head_of(arrow);
-    if head.is_empty() {
-        return put(text, "/>", &[]);
-    }
-    put(
-        text,
-        " marker-end=\"url(#{}{})\"/>",
-        &[Words(head), Rank(arrow.from.rank)],
-    )
-}
-
-/// Adds a line from one lane to another.
-fn put_straight(text: &mut Vec<u8>, arrow: &Arrow, line: &Line) -> io::Result<()> {
-    put(
-        text,
-        "<line class=\"{} s{}\" x1=\"{}\" y1=\"{}\" x2=\"{}\" y2=\"{}\"",
-        &[
-            Words(class_of(arrow)),
-            Rank(arrow.from.rank),
-            Across(line.from),
-            Number(line.from_row),
-            Across(line.to),
-            Number(line.to_row),
-        ],
-    )?;
-    put_head(text, arrow)
-}
-
-/// Adds where a bow begins, and its way down.
-fn put_bend(text: &mut Vec<u8>, arrow: &Arrow, line: &Line) -> io::Result<()> {
-    let down = line.to_row.saturating_sub(line.from_row);
-    put(
-        text,
-        "<svg overflow=\"visible\" x=\"{}\" y=\"{}\"><path class=\"{} s{}\" d=\"M0,0C26,0 26,{} 0,{}\"",
-        &[
-            Across(line.from),
-            Number(line.from_row),
-            Words(class_of(arrow)),
-            Rank(arrow.from.rank),
-            Number(down),
-            Number(down),
-        ],
-    )
-}
-
-/// Adds a bow beside a lane.
-fn put_bow(text: &mut Vec<u8>, arrow: &Arrow, line: &Line) -> io::Result<()> {
-    put_bend(text, arrow, line)?;
-    put_head(text, arrow)?;
-    put(text, "</svg>", &[])
 }
 
 /// A part of the way from one to the other, in hundredths.
@@ -193,69 +127,89 @@ fn part_way(from: u64, to: u64, hundredths: u64) -> u64 {
     }
 }
 
-/// Where an arrow that nobody got begins and ends, if it begins here.
-fn lost_line(layout: &Layout<'_>, arrow: &Arrow, from: u64, from_row: u64) -> Line {
-    let dest = rank_at(layout.drawing, arrow.dest);
-    Line {
-        from,
-        from_row,
-        to: part_way(from, dest, 25),
-        to_row: from_row.saturating_add(12),
-    }
-}
-
-/// Where an arrow begins and ends. Where one of its steps isn't shown it goes to the picture's border.
+/// Where an arrow begins and ends. Where one of its steps isn't shown it goes to the picture's border, and where nobody got
+/// it a part of the way.
 fn line_of(layout: &Layout<'_>, arrow: &Arrow) -> Line {
     let from = layout.lane_of(arrow.from);
     let from_row = layout.row_at(arrow.from.place).unwrap_or(TOP);
-    match arrow.to {
-        Some(to) => Line {
-            from,
-            from_row,
-            to: layout.lane_of(to),
-            to_row: layout.row_at(to.place).unwrap_or(layout.foot),
-        },
-        None => lost_line(layout, arrow, from, from_row),
+    let (to, to_row) = match arrow.to {
+        Some(to) => (
+            layout.lane_of(to),
+            layout.row_at(to.place).unwrap_or(layout.foot),
+        ),
+        None => (
+            part_way(from, rank_at(layout.drawing, arrow.dest), 25),
+            from_row.saturating_add(12),
+        ),
+    };
+    Line {
+        from,
+        from_row,
+        to,
+        to_row,
     }
 }
 
-/// Adds the number of a step beside an arrow's end.
-fn put_number(text: &mut Vec<u8>, at: u64, row: u64, place: u64) -> io::Result<()> {
+/// Adds an arrow's line, with its head: a straight one from one lane to another, or a bow beside a lane where it begins and
+/// ends in one.
+fn put_line(text: &mut Vec<u8>, arrow: &Arrow, line: &Line) -> io::Result<()> {
+    let (class, head) = drawn_as(arrow);
+    let rank = Rank(arrow.from.rank);
+    let at = Across(line.from);
+    let row = Number(line.from_row);
+    if line.from != line.to {
+        put(
+            text,
+            "<line class=\"{} s{}\" x1=\"{}\" y1=\"{}\" x2=\"{}\" y2=\"{}\"",
+            &[
+                Words(class),
+                rank,
+                at,
+                row,
+                Across(line.to),
+                Number(line.to_row),
+            ],
+        )?;
+        return put(text, head, &[rank]);
+    }
+    let down = Number(line.to_row.saturating_sub(line.from_row));
     put(
         text,
-        "<text class=\"dim halo\" font-size=\"9\" dx=\"5\" x=\"{}\" y=\"{}\">{}</text>",
-        &[Across(at), Number(row.saturating_add(3)), Number(place)],
-    )
+        "<svg overflow=\"visible\" x=\"{}\" y=\"{}\"><path class=\"{} s{}\" d=\"M0,0C26,0 26,{} 0,{}\"",
+        &[at, row, Words(class), rank, down, down],
+    )?;
+    put(text, head, &[rank])?;
+    put(text, "</svg>", &[])
 }
 
-/// Adds at the border the number of a step that isn't shown.
-fn put_border(text: &mut Vec<u8>, drawing: &Drawing, line: &Line, arrow: &Arrow) -> io::Result<()> {
-    if arrow.from.place < drawing.from {
-        put_number(text, line.from, line.from_row, arrow.from.place)?;
-    }
-    if let Some(to) = arrow.to {
-        if to.place >= drawing.to {
-            return put_number(text, line.to, line.to_row, to.place);
-        }
-    }
-    Ok(())
-}
-
-/// Adds an arrow's line: a bow where it begins and ends in one lane.
-fn put_line(text: &mut Vec<u8>, arrow: &Arrow, line: &Line) -> io::Result<()> {
-    if line.from == line.to {
-        put_bow(text, arrow, line)
-    } else {
-        put_straight(text, arrow, line)
-    }
-}
+/// The number of a step that isn't shown, at the border beside an arrow's end.
+const NUMBER: &str =
+    "<text class=\"dim halo\" font-size=\"9\" dx=\"5\" x=\"{}\" y=\"{}\">{}</text>";
 
 /// Adds what stands behind an arrow's title: its line, and the numbers at the border.
 fn put_drawn(text: &mut Vec<u8>, layout: &Layout<'_>, arrow: &Arrow) -> io::Result<()> {
     let line = line_of(layout, arrow);
     put(text, "</title>", &[])?;
     put_line(text, arrow, &line)?;
-    put_border(text, layout.drawing, &line, arrow)?;
+    let from = arrow.from.place;
+    if from < layout.drawing.from {
+        let row = line.from_row.saturating_add(3);
+        put(
+            text,
+            NUMBER,
+            &[Across(line.from), Number(row), Number(from)],
+        )?;
+    }
+    if let Some(to) = arrow.to {
+        if to.place >= layout.drawing.to {
+            let row = line.to_row.saturating_add(3);
+            put(
+                text,
+                NUMBER,
+                &[Across(line.to), Number(row), Number(to.place)],
+            )?;
+        }
+    }
     put(text, "</g>\n", &[])
 }
 
@@ -344,31 +298,17 @@ pub(crate) fn put_arrows(
     put_those(alloc, text, layout, false, arrows)
 }
 
-/// The tag and the size of a message, if it is one.
-fn message_of(arrow: &Arrow) -> Option<(u16, u16)> {
-    match arrow.carried {
-        Carried::Message { tag, count } => Some((tag, count)),
-        _ => None,
-    }
-}
-
-/// Whether a message has another tag or another size than those before it.
-fn differs(kind: Option<(u16, u16)>, own: (u16, u16)) -> bool {
-    match kind {
-        None => false,
-        Some(other) => own.0 != other.0 || own.1 != other.1,
-    }
-}
-
-/// The tag and the size that all messages have, if they have one and there are two at least.
+/// The tag and the size that all messages have, if they have one and there is one at least.
 pub(crate) fn shared_kind(arrows: &[Arrow]) -> Option<(u16, u16)> {
     let mut kind: Option<(u16, u16)> = None;
     for arrow in arrows {
-        if let Some(own) = message_of(arrow) {
-            if differs(kind, own) {
-                return None;
+        if let Carried::Message { tag, count } = arrow.carried {
+            if let Some(other) = kind {
+                if tag != other.0 || count != other.1 {
+                    return None;
+                }
             }
-            kind = Some(own);
+            kind = Some((tag, count));
         }
     }
     kind
@@ -376,22 +316,6 @@ pub(crate) fn shared_kind(arrows: &[Arrow]) -> Option<(u16, u16)> {
 
 /// How far along an arrow its label is tried.
 static TRIED: [u64; 4] = [18, 32, 50, 68];
-
-/// Adds a message's tag and size at this place.
-fn put_kind(text: &mut Vec<u8>, at: u64, row: u64, rank: u8, kind: (u16, u16)) -> io::Result<()> {
-    let (tag, count) = kind;
-    put(
-        text,
-        "<text class=\"f{} halo wide\" font-size=\"9.5\" text-anchor=\"middle\" x=\"{}\" y=\"{}\">t{} {}B</text>\n",
-        &[
-            Rank(rank),
-            Across(at),
-            Number(row),
-            Number(u64::from(tag)),
-            Number(u64::from(count)),
-        ],
-    )
-}
 
 /// Adds a message's tag and size beside its arrow, where there is room.
 fn put_label(
@@ -401,100 +325,23 @@ fn put_label(
     rank: u8,
     kind: (u16, u16),
 ) -> io::Result<()> {
+    let (tag, count) = kind;
     let width = places.letters(9);
     for way in &TRIED {
         let at = part_way(line.from, line.to, *way);
         let row = part_way(line.from_row, line.to_row, *way).saturating_sub(2);
         if places.take(at.saturating_sub(width / 2), width, row)? {
-            return put_kind(text, at, row, rank, kind);
-        }
-    }
-    Ok(())
-}
-
-/// How many letters the label of an open head has.
-const NOT_GOT: usize = 13;
-
-/// How far below an open head its label is tried.
-static LOWER: [u64; 3] = [4, 16, 28];
-
-/// Whether a label stands to the right of an open head: behind the head, or where the arrow leads to its own lane at the
-/// side that has room.
-fn stands_right(places: &Places, line: &Line) -> bool {
-    if line.to == line.from {
-        places.is_inside(false, line.to, 4, NOT_GOT)
-    } else {
-        line.to > line.from
-    }
-}
-
-/// Adds at an open head that nobody got the message or took the partition, in this row.
-fn put_not_got(
-    text: &mut Vec<u8>,
-    line: &Line,
-    arrow: &Arrow,
-    right: bool,
-    row: u64,
-) -> io::Result<()> {
-    let (anchor, dx) = if right { ("start", "4") } else { ("end", "-4") };
-    put(
-        text,
-        "<text class=\"f{} halo wide\" font-size=\"9.5\" text-anchor=\"{}\" dx=\"{}\" x=\"{}\" y=\"{}\">to {}: not got</text>\n",
-        &[
-            Rank(arrow.from.rank),
-            Words(anchor),
-            Words(dx),
-            Across(line.to),
-            Number(row),
-            Rank(arrow.dest),
-        ],
-    )
-}
-
-/// Adds at the open head of what nobody got that it wasn't, where there is room.
-fn put_lost(text: &mut Vec<u8>, places: &mut Places, line: &Line, arrow: &Arrow) -> io::Result<()> {
-    let width = places.pixels(78);
-    let right = stands_right(places, line);
-    let left = if right {
-        line.to
-    } else {
-        line.to.saturating_sub(width)
-    };
-    for lower in &LOWER {
-        let row = line.to_row.saturating_add(*lower);
-        if places.take(left, width, row)? {
-            return put_not_got(text, line, arrow, right, row);
-        }
-    }
-    Ok(())
-}
-
-/// Adds the labels of messages that nobody got, and of partitions that nobody took.
-pub(crate) fn put_losses(
-    text: &mut Vec<u8>,
-    places: &mut Places,
-    layout: &Layout<'_>,
-) -> io::Result<()> {
-    for arrow in layout.drawing.arrows.as_slice() {
-        if arrow.to.is_none() {
-            let line = line_of(layout, arrow);
-            put_lost(text, places, &line, arrow)?;
-        }
-    }
-    Ok(())
-}
-
-/// Adds the label of a message that was got.
-fn put_label_of(
-    text: &mut Vec<u8>,
-    places: &mut Places,
-    layout: &Layout<'_>,
-    arrow: &Arrow,
-) -> io::Result<()> {
-    if let Some(kind) = message_of(arrow) {
-        let line = line_of(layout, arrow);
-        if line.from != line.to && arrow.to.is_some() {
-            return put_label(text, places, &line, arrow.from.rank, kind);
+            return put(
+                text,
+                "<text class=\"f{} halo wide\" font-size=\"9.5\" text-anchor=\"middle\" x=\"{}\" y=\"{}\">t{} {}B</text>\n",
+                &[
+                    Rank(rank),
+                    Across(at),
+                    Number(row),
+                    Number(u64::from(tag)),
+                    Number(u64::from(count)),
+                ],
+            );
         }
     }
     Ok(())
@@ -511,7 +358,67 @@ pub(crate) fn put_labels(
         return Ok(());
     }
     for arrow in arrows {
-        put_label_of(text, places, layout, arrow)?;
+        if let Carried::Message { tag, count } = arrow.carried {
+            let line = line_of(layout, arrow);
+            if line.from != line.to && arrow.to.is_some() {
+                put_label(text, places, &line, arrow.from.rank, (tag, count))?;
+            }
+        }
+    }
+    Ok(())
+}
+
+/// How many letters the label of an open head has.
+const NOT_GOT: usize = 13;
+
+/// How far below an open head its label is tried.
+static LOWER: [u64; 3] = [4, 16, 28];
+
+/// Adds at the open head of what nobody got that it wasn't, where there is room: behind the head, or where the arrow leads to
+/// its own lane at the side that has room.
+fn put_lost(text: &mut Vec<u8>, places: &mut Places, line: &Line, arrow: &Arrow) -> io::Result<()> {
+    let right = if line.to == line.from {
+        places.is_inside(false, line.to, 4, NOT_GOT)
+    } else {
+        line.to > line.from
+    };
+    let width = places.pixels(78);
+    let (anchor, dx, left) = if right {
+        ("start", "4", line.to)
+    } else {
+        ("end", "-4", line.to.saturating_sub(width))
+    };
+    for lower in &LOWER {
+        let row = line.to_row.saturating_add(*lower);
+        if places.take(left, width, row)? {
+            return put(
+                text,
+                "<text class=\"f{} halo wide\" font-size=\"9.5\" text-anchor=\"{}\" dx=\"{}\" x=\"{}\" y=\"{}\">to {}: not got</text>\n",
+                &[
+                    Rank(arrow.from.rank),
+                    Words(anchor),
+                    Words(dx),
+                    Across(line.to),
+                    Number(row),
+                    Rank(arrow.dest),
+                ],
+            );
+        }
+    }
+    Ok(())
+}
+
+/// Adds the labels of messages that nobody got, and of partitions that nobody took.
+pub(crate) fn put_losses(
+    text: &mut Vec<u8>,
+    places: &mut Places,
+    layout: &Layout<'_>,
+) -> io::Result<()> {
+    for arrow in layout.drawing.arrows.as_slice() {
+        if arrow.to.is_none() {
+            let line = line_of(layout, arrow);
+            put_lost(text, places, &line, arrow)?;
+        }
     }
     Ok(())
 }

@@ -14,72 +14,6 @@ const LINE: u64 = 14;
 /// The middle of the page.
 const MIDDLE: u64 = 5_000;
 
-/// How a row is drawn: its line, its begin, and its heads.
-#[derive(Clone, Copy, Drop)]
-struct Colours {
-    line: &'static str,
-    begin: &'static str,
-    head: &'static str,
-}
-
-/// The row of a hart that waits, of a rank in a deadlock or of another.
-fn colours_of(stuck: bool) -> Colours {
-    if stuck {
-        Colours {
-            line: "rule",
-            begin: "ever",
-            head: "red",
-        }
-    } else {
-        Colours {
-            line: "lane",
-            begin: "wait",
-            head: "dim",
-        }
-    }
-}
-
-/// Adds the head at a rank that is waited for.
-fn put_head(
-    text: &mut Vec<u8>,
-    drawing: &Drawing,
-    own: u64,
-    rank: u8,
-    down: u64,
-    class: &'static str,
-) -> io::Result<()> {
-    let at = rank_at(drawing, rank);
-    let name = if at < own { "to-left" } else { "to-right" };
-    put(
-        text,
-        "<use href=\"#{}\" class=\"{}\" x=\"{}\" y=\"{}\"/>",
-        &[Words(name), Words(class), Across(at), Number(down)],
-    )
-}
-
-/// The least and the greatest of the places of these ranks and this.
-fn reach(drawing: &Drawing, own: u64, awaited: &[u8]) -> (u64, u64) {
-    let mut least = own;
-    let mut most = own;
-    for rank in awaited {
-        let at = rank_at(drawing, *rank);
-        least = least.min(at);
-        most = most.max(at);
-    }
-    (least, most)
-}
-
-/// Adds the ranks that are waited for.
-fn put_awaited(text: &mut Vec<u8>, awaited: &[u8]) -> io::Result<()> {
-    if awaited.is_empty() {
-        return put(text, " its own rank", &[]);
-    }
-    for rank in awaited {
-        put(text, " rank {}", &[Rank(*rank)])?;
-    }
-    Ok(())
-}
-
 /// Adds what is told of a row: the ranks that are waited for.
 fn put_title(text: &mut Vec<u8>, row: &Row) -> io::Result<()> {
     put(
@@ -87,13 +21,39 @@ fn put_title(text: &mut Vec<u8>, row: &Row) -> io::Result<()> {
         "<g><title>rank {} hart {} waits for",
         &[Rank(row.rank), Hart(row.hart)],
     )?;
-    put_awaited(text, row.awaited.as_slice())?;
+    for rank in row.awaited.as_slice() {
+        put(text, " rank {}", &[Rank(*rank)])?;
+    }
+    let itself = if row.awaited.is_empty() {
+        " its own rank"
+    } else {
+        ""
+    };
     let stuck = if row.stuck { ": in a deadlock" } else { "" };
-    put(text, "{}</title>", &[Words(stuck)])
+    put(text, "{}{}</title>", &[Words(itself), Words(stuck)])
 }
 
-/// Adds that a hart waits for its own rank.
-fn put_itself(text: &mut Vec<u8>, own: u64, down: u64) -> io::Result<()> {
+/// Adds a row's heads, of this class, at each rank that the hart waits for, or that it waits for its own.
+fn put_heads(
+    text: &mut Vec<u8>,
+    drawing: &Drawing,
+    row: &Row,
+    own: u64,
+    down: u64,
+    class: &'static str,
+) -> io::Result<()> {
+    for rank in row.awaited.as_slice() {
+        let at = rank_at(drawing, *rank);
+        let name = if at < own { "to-left" } else { "to-right" };
+        put(
+            text,
+            "<use href=\"#{}\" class=\"{}\" x=\"{}\" y=\"{}\"/>",
+            &[Words(name), Words(class), Across(at), Number(down)],
+        )?;
+    }
+    if !row.awaited.is_empty() {
+        return Ok(());
+    }
     let (anchor, dx) = if own > MIDDLE {
         ("end", "-9")
     } else {
@@ -111,16 +71,23 @@ fn put_itself(text: &mut Vec<u8>, own: u64, down: u64) -> io::Result<()> {
     )
 }
 
-/// Adds a row's line, over the hart's lane and each rank that it waits for, and its begin, at the hart's lane.
-fn put_span(
-    text: &mut Vec<u8>,
-    drawing: &Drawing,
-    row: &Row,
-    own: u64,
-    down: u64,
-) -> io::Result<()> {
-    let (least, most) = reach(drawing, own, row.awaited.as_slice());
-    let Colours { line, begin, .. } = colours_of(row.stuck);
+/// Adds a row: its line, over the hart's lane and each rank that it waits for, its begin, at the hart's lane, and its heads.
+fn put_row(text: &mut Vec<u8>, drawing: &Drawing, row: &Row, down: u64) -> io::Result<()> {
+    let own = lane_at(drawing, row.rank, row.hart);
+    let mut least = own;
+    let mut most = own;
+    for rank in row.awaited.as_slice() {
+        let at = rank_at(drawing, *rank);
+        least = least.min(at);
+        most = most.max(at);
+    }
+    // of a rank in a deadlock, or of another
+    let (line, begin, head) = if row.stuck {
+        ("rule", "ever", "red")
+    } else {
+        ("lane", "wait", "dim")
+    };
+    put_title(text, row)?;
     put(
         text,
         "<line class=\"{}\" x1=\"{}\" x2=\"{}\" y1=\"{}\" y2=\"{}\"/><circle class=\"{}\" r=\"4\" cx=\"{}\" cy=\"{}\"/>",
@@ -134,33 +101,8 @@ fn put_span(
             Across(own),
             Number(down),
         ],
-    )
-}
-
-/// Adds its heads, at each rank that the hart waits for.
-fn put_heads(
-    text: &mut Vec<u8>,
-    row: &Row,
-    own: u64,
-    down: u64,
-    drawing: &Drawing,
-) -> io::Result<()> {
-    let class = colours_of(row.stuck).head;
-    for rank in row.awaited.as_slice() {
-        put_head(text, drawing, own, *rank, down, class)?;
-    }
-    if row.awaited.is_empty() {
-        put_itself(text, own, down)?;
-    }
-    Ok(())
-}
-
-/// Adds a row: from the hart's lane to each rank that it waits for.
-fn put_row(text: &mut Vec<u8>, drawing: &Drawing, row: &Row, down: u64) -> io::Result<()> {
-    let own = lane_at(drawing, row.rank, row.hart);
-    put_title(text, row)?;
-    put_span(text, drawing, row, own, down)?;
-    put_heads(text, row, own, down, drawing)?;
+    )?;
+    put_heads(text, drawing, row, own, down, head)?;
     put(text, "</g>\n", &[])
 }
 
@@ -197,44 +139,32 @@ fn parted(line: &[u8]) -> usize {
     found
 }
 
-/// Adds a line of what is told.
-fn put_line(
-    text: &mut Vec<u8>,
-    line: &[u8],
-    left: u64,
-    down: u64,
-    class: &'static str,
-) -> io::Result<()> {
+/// A line of what is told.
+const TOLD: &str =
+    "<text class=\"{}\" font-size=\"11\" xml:space=\"preserve\" x=\"{}\" y=\"{}\">{}</text>\n";
+
+/// Adds one line in one or two, but the verdict on a deadlock in one, and tells where the next begins.
+fn put_told_line(text: &mut Vec<u8>, line: &[u8], down: u64) -> io::Result<u64> {
+    let (class, part) = if line.starts_with(b"deadlock: ") {
+        ("red bold", line.len())
+    } else {
+        ("ink", parted(line).min(line.len()))
+    };
     put(
         text,
-        "<text class=\"{}\" font-size=\"11\" xml:space=\"preserve\" x=\"{}\" y=\"{}\">{}</text>\n",
-        &[Words(class), Number(left), Number(down), Guest(line)],
-    )
-}
-
-/// Whether a line is the verdict on a deadlock.
-fn is_verdict(line: &[u8]) -> bool {
-    line.starts_with(b"deadlock: ")
-}
-
-/// Adds a line that is no verdict in one or two, and tells where the next begins.
-fn put_parted(text: &mut Vec<u8>, line: &[u8], down: u64) -> io::Result<u64> {
-    let part = parted(line).min(line.len());
-    put_line(text, &line[..part], 12, down, "ink")?;
+        TOLD,
+        &[Words(class), Number(12), Number(down), Guest(&line[..part])],
+    )?;
+    let down = down.saturating_add(LINE);
     if part == line.len() {
-        return Ok(down.saturating_add(LINE));
+        return Ok(down);
     }
-    put_line(text, &line[part..], 28, down.saturating_add(LINE), "ink")?;
-    Ok(down.saturating_add(LINE).saturating_add(LINE))
-}
-
-/// Adds one line in one or two, and tells where the next begins.
-fn put_told_line(text: &mut Vec<u8>, line: &[u8], down: u64) -> io::Result<u64> {
-    if is_verdict(line) {
-        put_line(text, line, 12, down, "red bold")?;
-        return Ok(down.saturating_add(LINE));
-    }
-    put_parted(text, line, down)
+    put(
+        text,
+        TOLD,
+        &[Words(class), Number(28), Number(down), Guest(&line[part..])],
+    )?;
+    Ok(down.saturating_add(LINE))
 }
 
 /// Adds what is told, from this row on, and tells where it ends.

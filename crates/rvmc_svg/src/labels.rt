@@ -31,11 +31,6 @@ pub(crate) struct Places {
     taken: Vec<Place>,
 }
 
-fn touches(a: &Place, b: &Place) -> bool {
-    let high = a.row.max(b.row).saturating_sub(a.row.min(b.row));
-    a.left < b.right && b.left < a.right && high < HIGH
-}
-
 impl Places {
     /// Nothing is written yet.
     pub(crate) fn new(alloc: Global, page: u64) -> Places {
@@ -66,17 +61,14 @@ impl Places {
 
     /// Takes the place, if nothing is written there.
     pub(crate) fn take(&mut self, left: u64, width: u64, row: u64) -> Result<bool, AllocError> {
-        let place = Place {
-            left,
-            right: left.saturating_add(width),
-            row,
-        };
+        let right = left.saturating_add(width);
         for other in self.taken.as_slice() {
-            if touches(other, &place) {
+            let high = other.row.max(row).saturating_sub(other.row.min(row));
+            if other.left < right && left < other.right && high < HIGH {
                 return Ok(false);
             }
         }
-        self.taken.push(place)?;
+        self.taken.push(Place { left, right, row })?;
         Ok(true)
     }
 }

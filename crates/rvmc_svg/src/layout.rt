@@ -89,11 +89,6 @@ pub(crate) fn lane_at(drawing: &Drawing, rank: u8, hart: u8) -> u64 {
         .saturating_sub(half)
 }
 
-/// The lane of a step's hart.
-pub(crate) fn spot_at(drawing: &Drawing, spot: Spot) -> u64 {
-    lane_at(drawing, spot.rank, spot.hart)
-}
-
 /// The row of the mark at a place, if there is one.
 fn row_of(marks: &[Mark], rows: &[u64], place: u64) -> Option<u64> {
     let mut low = 0;
@@ -123,7 +118,7 @@ impl<'a> Layout<'a> {
 
     /// The lane of a step's hart.
     pub(crate) fn lane_of(&self, spot: Spot) -> u64 {
-        spot_at(self.drawing, spot)
+        lane_at(self.drawing, spot.rank, spot.hart)
     }
 
     /// Whether an arrow comes to a step from the right.
@@ -162,31 +157,6 @@ pub(crate) fn names_at(number: u64) -> u64 {
         .saturating_add(NAME)
 }
 
-/// Where hart lanes were last used.
-#[derive(Drop)]
-struct Lanes {
-    harts: usize,
-    rows: Vec<u64>,
-}
-
-impl Lanes {
-    fn last(&self, spot: Spot) -> Option<u64> {
-        let lane = usize::from(spot.rank)
-            .saturating_mul(self.harts)
-            .saturating_add(usize::from(spot.hart));
-        self.rows.get(lane).copied()
-    }
-
-    fn used(&mut self, spot: Spot, row: u64) {
-        let lane = usize::from(spot.rank)
-            .saturating_mul(self.harts)
-            .saturating_add(usize::from(spot.hart));
-        if let Some(last) = self.rows.get_mut(lane) {
-            *last = row;
-        }
-    }
-}
-
 /// The lowest row that the arrows to a mark leave it.
 fn below_arrows(marks: &[Mark], rows: &[u64], arrows: &[Arrow], place: u64, row: u64) -> u64 {
     let mut lowest = row;
@@ -206,16 +176,17 @@ fn below_arrows(marks: &[Mark], rows: &[u64], arrows: &[Arrow], place: u64, row:
 pub(crate) fn rows(alloc: Global, drawing: &Drawing) -> Result<Vec<u64>, AllocError> {
     let harts = usize::from(drawing.harts);
     let lanes = usize::from(drawing.ranks).saturating_mul(harts);
-    let mut lanes = Lanes {
-        harts,
-        rows: Vec::from_elem(alloc, TOP, lanes)?,
-    };
+    // where each lane was last used
+    let mut used = Vec::from_elem(alloc, TOP, lanes)?;
     let mut rows: Vec<u64> = Vec::new(alloc);
     let mut row = TOP;
     let long = long(drawing);
     let marks = drawing.marks.as_slice();
     for mark in marks {
-        let last = lanes.last(mark.spot).unwrap_or(TOP);
+        let lane = usize::from(mark.spot.rank)
+            .saturating_mul(harts)
+            .saturating_add(usize::from(mark.spot.hart));
+        let last = used.get(lane).copied().unwrap_or(TOP);
         let apart = if mark.quiet >= long && last > TOP {
             LONG_ROW
         } else {
@@ -231,7 +202,9 @@ pub(crate) fn rows(alloc: Global, drawing: &Drawing) -> Result<Vec<u64>, AllocEr
         );
         row = below_names(row);
         rows.push(row)?;
-        lanes.used(mark.spot, row);
+        if let Some(last) = used.get_mut(lane) {
+            *last = row;
+        }
     }
     Ok(rows)
 }

@@ -7,231 +7,152 @@ use crate::pieces::put;
 use rvmc_draw::{Carried, Drawing, Shape};
 use std::io;
 
-/// A row of the legend is so high, and has so many signs.
+/// How high a row of the legend is, how far apart two of its signs are, in per cent, and where a row ends.
 const ROW: u64 = 17;
 
-const SIGNS: u64 = 3;
+const APART: u64 = 33;
+
+const END: u64 = 99;
 
 /// How far apart two lines are.
 const LINE: u64 = 14;
 
-/// What each shape means, in the legend's order.
-static SIGNS_OF: [(Shape, &str); 15] = [
-    (Shape::Send, "sends"),
-    (Shape::SyncSend, "sends, synchronous"),
-    (Shape::Done, "send complete"),
-    (Shape::Posted, "receive posted"),
-    (Shape::Got, "has got"),
-    (Shape::Seen, "probe saw"),
-    (Shape::Claimed, "claims"),
-    (Shape::Ready, "partition ready"),
-    (Shape::Taken, "partition taken"),
-    (Shape::Freed, "known to be taken"),
-    (Shape::Put, "puts out"),
-    (Shape::Exit, "ends"),
-    (Shape::Trap, "traps"),
-    (Shape::Refused, "call refused"),
-    (Shape::Other, "another call"),
+/// What a picture may have that has a sign: which says how the sign is drawn.
+#[derive(Clone, Copy, Drop)]
+enum Sign {
+    /// A mark of this shape.
+    Mark(Shape),
+    /// A hart that waits, and goes on or doesn't: a bar of this class.
+    Bar(bool, &'static str),
+    /// A receive of any source.
+    Wild,
+    /// An arrow that isn't plain: a line of this class.
+    Arrow(Kind, &'static str),
+}
+
+/// A kind of arrow.
+#[derive(Clone, Copy, Drop)]
+enum Kind {
+    /// Of a message.
+    Message,
+    /// To a claim.
+    Claim,
+    /// Of what could have been taken.
+    Could,
+    /// Of a message that nobody got, or of a partition that nobody took.
+    Lost,
+}
+
+/// All signs and what they mean, in the legend's order.
+static SIGNS: [(Sign, &str); 21] = [
+    (Sign::Mark(Shape::Send), "sends"),
+    (Sign::Mark(Shape::SyncSend), "sends, synchronous"),
+    (Sign::Mark(Shape::Done), "send complete"),
+    (Sign::Mark(Shape::Posted), "receive posted"),
+    (Sign::Mark(Shape::Got), "has got"),
+    (Sign::Mark(Shape::Seen), "probe saw"),
+    (Sign::Mark(Shape::Claimed), "claims"),
+    (Sign::Mark(Shape::Ready), "partition ready"),
+    (Sign::Mark(Shape::Taken), "partition taken"),
+    (Sign::Mark(Shape::Freed), "known to be taken"),
+    (Sign::Mark(Shape::Put), "puts out"),
+    (Sign::Mark(Shape::Exit), "ends"),
+    (Sign::Mark(Shape::Trap), "traps"),
+    (Sign::Mark(Shape::Refused), "call refused"),
+    (Sign::Mark(Shape::Other), "another call"),
+    (Sign::Bar(true, "wait"), "waits"),
+    (Sign::Bar(false, "ever"), "waits at the end"),
+    (Sign::Wild, "from any rank"),
+    (Sign::Arrow(Kind::Lost, "lost"), "got by nobody"),
+    (Sign::Arrow(Kind::Claim, "claim"), "to the claim"),
+    (Sign::Arrow(Kind::Could, "far"), "could have been got"),
 ];
 
-/// Where the next sign stands.
-#[derive(Drop)]
-struct Pen {
-    number: u64,
-    from: u64,
+/// Whether the picture has an arrow of this kind.
+fn has_arrow(drawing: &Drawing, kind: Kind) -> bool {
+    for arrow in drawing.arrows.as_slice() {
+        let is = match kind {
+            Kind::Message => matches!(arrow.carried, Carried::Message { .. }),
+            Kind::Claim => matches!(arrow.carried, Carried::Claim { .. }),
+            Kind::Could => matches!(arrow.carried, Carried::Could { .. }),
+            Kind::Lost => arrow.to.is_none(),
+        };
+        if is {
+            return true;
+        }
+    }
+    false
 }
 
-impl Pen {
-    fn across(&self) -> u64 {
-        (self.number % SIGNS).saturating_mul(33)
-    }
-
-    fn down(&self) -> u64 {
-        (self.number / SIGNS)
-            .saturating_mul(ROW)
-            .saturating_add(self.from)
-    }
-
-    fn next(&mut self) {
-        self.number = self.number.saturating_add(1);
-    }
-}
-
-/// Whether the picture has the shape.
-fn has(drawing: &Drawing, shape: Shape) -> bool {
+/// Whether the picture has what this is the sign of.
+fn has(drawing: &Drawing, sign: Sign) -> bool {
     for mark in drawing.marks.as_slice() {
-        if mark.shape == shape {
+        let is = match sign {
+            Sign::Mark(shape) => mark.shape == shape,
+            Sign::Wild => mark.wild,
+            _ => false,
+        };
+        if is {
             return true;
         }
     }
-    false
-}
-
-/// Whether a hart waits, and goes on or doesn't.
-fn has_bar(drawing: &Drawing, went_on: bool) -> bool {
     for bar in drawing.bars.as_slice() {
-        if bar.went_on == went_on {
+        let is = match sign {
+            Sign::Bar(went_on, _) => bar.went_on == went_on,
+            _ => false,
+        };
+        if is {
             return true;
         }
     }
-    false
-}
-
-/// Whether there is a line of what could have been taken.
-fn has_could(drawing: &Drawing) -> bool {
-    for arrow in drawing.arrows.as_slice() {
-        if matches!(arrow.carried, Carried::Could { .. }) {
-            return true;
-        }
+    match sign {
+        Sign::Arrow(kind, _) => has_arrow(drawing, kind),
+        _ => false,
     }
-    false
 }
 
-/// Whether there is a message that nobody got, or a partition that nobody took.
-fn has_lost(drawing: &Drawing) -> bool {
-    for arrow in drawing.arrows.as_slice() {
-        if arrow.to.is_none() {
-            return true;
-        }
+/// Adds a sign, so far across, in per cent, and so far down, and behind it what it means.
+fn put_sign(
+    text: &mut Vec<u8>,
+    sign: Sign,
+    meaning: &'static str,
+    across: u64,
+    down: u64,
+) -> io::Result<()> {
+    let x = Number(across);
+    let y = Number(down);
+    match sign {
+        Sign::Mark(shape) => put(
+            text,
+            "<use href=\"#{}\" class=\"f0\" transform=\"translate(14 0)\" x=\"{}%\" y=\"{}\"/>",
+            &[Words(shape_name(shape)), x, y],
+        )?,
+        Sign::Bar(_, class) => put(
+            text,
+            "<rect class=\"{}\" rx=\"2\" width=\"6\" height=\"12\" transform=\"translate(11 0)\" x=\"{}%\" y=\"{}\"/>",
+            &[Words(class), x, Number(down.saturating_sub(6))],
+        )?,
+        Sign::Wild => put(
+            text,
+            "<use href=\"#ring\" transform=\"translate(14 0)\" x=\"{}%\" y=\"{}\"/>",
+            &[x, y],
+        )?,
+        Sign::Arrow(_, class) => put(
+            text,
+            "<svg overflow=\"visible\" x=\"{}%\" y=\"{}\"><path class=\"a thin {} s0\" d=\"M4,0h18\"/></svg>",
+            &[x, y, Words(class)],
+        )?,
     }
-    false
-}
-
-/// Whether there is an arrow to a claim.
-fn has_claim(drawing: &Drawing) -> bool {
-    for arrow in drawing.arrows.as_slice() {
-        if matches!(arrow.carried, Carried::Claim { .. }) {
-            return true;
-        }
-    }
-    false
-}
-
-/// Adds what a sign means, behind the sign.
-fn put_meaning(text: &mut Vec<u8>, pen: &mut Pen, meaning: &'static str) -> io::Result<()> {
-    let across = pen.across();
-    let down = pen.down().saturating_add(4);
-    pen.next();
     put(
         text,
         "<text class=\"dim\" font-size=\"10\" dx=\"26\" x=\"{}%\" y=\"{}\">{}</text>\n",
-        &[Number(across), Number(down), Words(meaning)],
-    )
-}
-
-/// Adds the sign of a mark of this shape.
-fn put_shape(
-    text: &mut Vec<u8>,
-    pen: &mut Pen,
-    shape: Shape,
-    meaning: &'static str,
-) -> io::Result<()> {
-    put(
-        text,
-        "<use href=\"#{}\" class=\"f0\" transform=\"translate(14 0)\" x=\"{}%\" y=\"{}\"/>",
-        &[
-            Words(shape_name(shape)),
-            Number(pen.across()),
-            Number(pen.down()),
-        ],
-    )?;
-    put_meaning(text, pen, meaning)
-}
-
-/// Adds the signs of the marks.
-fn put_shapes(text: &mut Vec<u8>, drawing: &Drawing, pen: &mut Pen) -> io::Result<()> {
-    for sign in &SIGNS_OF {
-        if has(drawing, sign.0) {
-            put_shape(text, pen, sign.0, sign.1)?;
-        }
-    }
-    Ok(())
-}
-
-/// How a sign is drawn, and what it means.
-#[derive(Clone, Copy, Drop)]
-struct Sign {
-    class: &'static str,
-    meaning: &'static str,
-}
-
-/// Adds the sign of a bar.
-fn put_bar(text: &mut Vec<u8>, pen: &mut Pen, sign: Sign) -> io::Result<()> {
-    put(
-        text,
-        "<rect class=\"{}\" rx=\"2\" width=\"6\" height=\"12\" transform=\"translate(11 0)\" x=\"{}%\" y=\"{}\"/>",
-        &[
-            Words(sign.class),
-            Number(pen.across()),
-            Number(pen.down().saturating_sub(6)),
-        ],
-    )?;
-    put_meaning(text, pen, sign.meaning)
-}
-
-/// Whether there is a receive of any source.
-fn has_wild(drawing: &Drawing) -> bool {
-    for mark in drawing.marks.as_slice() {
-        if mark.wild {
-            return true;
-        }
-    }
-    false
-}
-
-/// Adds the sign of a receive of any source.
-fn put_wild(text: &mut Vec<u8>, pen: &mut Pen) -> io::Result<()> {
-    put(
-        text,
-        "<use href=\"#ring\" transform=\"translate(14 0)\" x=\"{}%\" y=\"{}\"/>",
-        &[Number(pen.across()), Number(pen.down())],
-    )?;
-    put_meaning(text, pen, "from any rank")
-}
-
-/// Adds the sign of a line that is drawn so.
-fn put_line(text: &mut Vec<u8>, pen: &mut Pen, sign: Sign) -> io::Result<()> {
-    put(
-        text,
-        "<svg overflow=\"visible\" x=\"{}%\" y=\"{}\"><path class=\"a thin {} s0\" d=\"M4,0h18\"/></svg>",
-        &[Number(pen.across()), Number(pen.down()), Words(sign.class)],
-    )?;
-    put_meaning(text, pen, sign.meaning)
-}
-
-/// Whether there is a message.
-fn has_message(drawing: &Drawing) -> bool {
-    for arrow in drawing.arrows.as_slice() {
-        if matches!(arrow.carried, Carried::Message { .. }) {
-            return true;
-        }
-    }
-    false
-}
-
-/// One byte, or several.
-fn bytes_word(count: u16) -> &'static str {
-    if count == 1 { "byte" } else { "bytes" }
-}
-
-/// Adds what all messages share.
-fn put_shared(text: &mut Vec<u8>, down: u64, kind: (u16, u16)) -> io::Result<()> {
-    let (tag, count) = kind;
-    put(
-        text,
-        "<text class=\"dim\" font-size=\"10\" x=\"12\" y=\"{}\">each message: tag {}, {} {}</text>\n",
-        &[
-            Number(down),
-            Number(u64::from(tag)),
-            Number(u64::from(count)),
-            Words(bytes_word(count)),
-        ],
+        &[x, Number(down.saturating_add(4)), Words(meaning)],
     )
 }
 
 /// Adds what all messages share, or how one is told, and where the next line stands.
 fn put_kind(text: &mut Vec<u8>, drawing: &Drawing, down: u64) -> io::Result<u64> {
-    if !has_message(drawing) {
+    if !has_arrow(drawing, Kind::Message) {
         return Ok(down);
     }
     match shared_kind(drawing.arrows.as_slice()) {
@@ -240,84 +161,39 @@ fn put_kind(text: &mut Vec<u8>, drawing: &Drawing, down: u64) -> io::Result<u64>
             "<text class=\"dim wide\" font-size=\"10\" x=\"12\" y=\"{}\">t7 8B: a message with tag 7 and 8 bytes</text>\n",
             &[Number(down)],
         )?,
-        Some(kind) => put_shared(text, down, kind)?,
+        Some((tag, count)) => put(
+            text,
+            "<text class=\"dim\" font-size=\"10\" x=\"12\" y=\"{}\">each message: tag {}, {} {}</text>\n",
+            &[
+                Number(down),
+                Number(u64::from(tag)),
+                Number(u64::from(count)),
+                Words(if count == 1 { "byte" } else { "bytes" }),
+            ],
+        )?,
     }
     Ok(down.saturating_add(LINE))
 }
 
-/// Those that look in vain and go on, those that wait at the end, and arrows of other kinds.
-const WAITS: Sign = Sign {
-    class: "wait",
-    meaning: "waits",
-};
-
-const WAITS_AT_END: Sign = Sign {
-    class: "ever",
-    meaning: "waits at the end",
-};
-
-const LOST: Sign = Sign {
-    class: "lost",
-    meaning: "got by nobody",
-};
-
-const CLAIMED: Sign = Sign {
-    class: "claim",
-    meaning: "to the claim",
-};
-
-const COULD: Sign = Sign {
-    class: "far",
-    meaning: "could have been got",
-};
-
-/// Adds the signs of bars.
-fn put_waits(text: &mut Vec<u8>, drawing: &Drawing, pen: &mut Pen) -> io::Result<()> {
-    if has_bar(drawing, true) {
-        put_bar(text, pen, WAITS)?;
-    }
-    if has_bar(drawing, false) {
-        put_bar(text, pen, WAITS_AT_END)?;
-    }
-    if has_wild(drawing) {
-        put_wild(text, pen)?;
-    }
-    Ok(())
-}
-
-/// Adds the signs of arrows that aren't plain.
-fn put_lines(text: &mut Vec<u8>, drawing: &Drawing, pen: &mut Pen) -> io::Result<()> {
-    if has_lost(drawing) {
-        put_line(text, pen, LOST)?;
-    }
-    if has_claim(drawing) {
-        put_line(text, pen, CLAIMED)?;
-    }
-    if has_could(drawing) {
-        put_line(text, pen, COULD)?;
-    }
-    Ok(())
-}
-
-/// Adds all signs.
-fn put_signs(text: &mut Vec<u8>, drawing: &Drawing, pen: &mut Pen) -> io::Result<()> {
-    put_shapes(text, drawing, pen)?;
-    put_waits(text, drawing, pen)?;
-    put_lines(text, drawing, pen)
-}
-
 /// Adds the legend, from this row on, and tells where it ends.
 pub(crate) fn put_legend(text: &mut Vec<u8>, drawing: &Drawing, from: u64) -> io::Result<u64> {
-    let down = put_kind(text, drawing, from)?;
+    let mut down = put_kind(text, drawing, from)?;
     put(
         text,
         "<text class=\"dim\" font-size=\"10\" x=\"12\" y=\"{}\">numbers at the left: steps, as in `rvmc debug go=N`</text>\n",
         &[Number(down)],
     )?;
-    let mut pen = Pen {
-        number: 0,
-        from: down.saturating_add(18),
-    };
-    put_signs(text, drawing, &mut pen)?;
-    Ok(pen.down().saturating_add(ROW))
+    down = down.saturating_add(18);
+    let mut across: u64 = 0;
+    for sign in &SIGNS {
+        if has(drawing, sign.0) {
+            put_sign(text, sign.0, sign.1, across, down)?;
+            across = across.saturating_add(APART);
+            if across >= END {
+                across = 0;
+                down = down.saturating_add(ROW);
+            }
+        }
+    }
+    Ok(down.saturating_add(ROW))
 }

@@ -37,15 +37,6 @@ pub(crate) fn shape_name(shape: Shape) -> &'static str {
     }
 }
 
-/// Adds one of the drawn shapes.
-fn put_use(text: &mut Vec<u8>, name: &'static str, rank: u8, at: u64, row: u64) -> io::Result<()> {
-    put(
-        text,
-        "<use href=\"#{}\" class=\"f{}\" x=\"{}\" y=\"{}\"/>\n",
-        &[Words(name), Rank(rank), Across(at), Number(row)],
-    )
-}
-
 /// How far from its mark a note begins.
 const BESIDE: u64 = 12;
 
@@ -59,31 +50,8 @@ struct Room {
     letters: usize,
 }
 
-/// Takes this room for a note of so many letters, if nothing is written there and the page doesn't end there.
-fn takes(
-    places: &mut Places,
-    room: Room,
-    at: u64,
-    row: u64,
-    length: usize,
-) -> Result<bool, AllocError> {
-    // two dots stand for the rest of the note
-    let dots = if room.letters < length { 2 } else { 0 };
-    let letters = room.letters.saturating_add(dots);
-    if !places.is_inside(room.left, at, BESIDE, letters) {
-        return Ok(false);
-    }
-    let wide = places.letters(room.letters);
-    let beside = places.pixels(BESIDE);
-    let from = if room.left {
-        at.saturating_sub(beside.saturating_add(wide))
-    } else {
-        at.saturating_add(beside)
-    };
-    places.take(from, wide, row)
-}
-
-/// The room for a note of so many letters: at this side of its mark, or else at the other.
+/// The room for a note of so many letters, which is taken: at this side of its mark, or else at the other, if nothing is
+/// written there and the page doesn't end there.
 fn room_beside(
     places: &mut Places,
     left: bool,
@@ -93,51 +61,24 @@ fn room_beside(
 ) -> Result<Option<Room>, AllocError> {
     for most in &TRIED {
         let letters = length.min(*most);
+        // two dots stand for the rest of the note
+        let dots = if letters < length { 2 } else { 0 };
+        let wide = places.letters(letters);
+        let beside = places.pixels(BESIDE);
         for left in [left, !left] {
-            let room = Room { left, letters };
-            if takes(places, room, at, row, length)? {
-                return Ok(Some(room));
+            let from = if left {
+                at.saturating_sub(beside.saturating_add(wide))
+            } else {
+                at.saturating_add(beside)
+            };
+            if places.is_inside(left, at, BESIDE, letters.saturating_add(dots))
+                && places.take(from, wide, row)?
+            {
+                return Ok(Some(Room { left, letters }));
             }
         }
     }
     Ok(None)
-}
-
-/// The colour of what is written beside a mark of this shape.
-fn note_class(shape: Shape) -> &'static str {
-    match shape {
-        Shape::Refused | Shape::Trap => "red",
-        _ => "dim",
-    }
-}
-
-/// Adds how and where it is written.
-fn put_beside(text: &mut Vec<u8>, shape: Shape, left: bool, at: u64, row: u64) -> io::Result<()> {
-    let class = note_class(shape);
-    let (anchor, sign) = if left { ("end", "-") } else { ("start", "") };
-    put(
-        text,
-        "<text class=\"{} halo wide\" font-size=\"10\" text-anchor=\"{}\" dx=\"{}{}\" dy=\"3.5\" x=\"{}\" y=\"{}\">",
-        &[
-            Words(class),
-            Words(anchor),
-            Words(sign),
-            Number(BESIDE),
-            Across(at),
-            Number(row),
-        ],
-    )
-}
-
-/// Adds so many letters of it.
-fn put_letters(text: &mut Vec<u8>, shown: &[u8], letters: usize) -> io::Result<()> {
-    let letters = letters.min(shown.len());
-    let more = if letters < shown.len() { ".." } else { "" };
-    put(
-        text,
-        "{}{}</text>\n",
-        &[Guest(&shown[..letters]), Words(more)],
-    )
 }
 
 /// What is written beside a mark: to its right, or to its left where an arrow comes from the right; at the other side where
@@ -150,16 +91,39 @@ fn put_note(
     at: u64,
     row: u64,
 ) -> io::Result<()> {
-    if mark.note.is_empty() {
+    let shown = mark.note.as_slice();
+    if shown.is_empty() {
         return Ok(());
     }
-    let shown = mark.note.as_slice();
     let left = layout.comes_from_right(mark.spot);
     let Some(room) = room_beside(places, left, at, row, shown.len())? else {
         return Ok(());
     };
-    put_beside(text, mark.shape, room.left, at, row)?;
-    put_letters(text, shown, room.letters)
+    let class = match mark.shape {
+        Shape::Refused | Shape::Trap => "red",
+        _ => "dim",
+    };
+    let (anchor, sign) = if room.left {
+        ("end", "-")
+    } else {
+        ("start", "")
+    };
+    let letters = room.letters.min(shown.len());
+    let more = if letters < shown.len() { ".." } else { "" };
+    put(
+        text,
+        "<text class=\"{} halo wide\" font-size=\"10\" text-anchor=\"{}\" dx=\"{}{}\" dy=\"3.5\" x=\"{}\" y=\"{}\">{}{}</text>\n",
+        &[
+            Words(class),
+            Words(anchor),
+            Words(sign),
+            Number(BESIDE),
+            Across(at),
+            Number(row),
+            Guest(&shown[..letters]),
+            Words(more),
+        ],
+    )
 }
 
 /// Adds how many of these there were, at the left of a lane, where there is room.
@@ -200,50 +164,11 @@ pub(crate) fn put_titled(
     Ok(())
 }
 
-/// Adds how many steps a mark stands for, and the end of its title.
-fn put_times(text: &mut Vec<u8>, mark: &Mark) -> io::Result<()> {
-    if mark.times > 1 {
-        put(
-            text,
-            "\nand more of its kind: {} in a row</title>",
-            &[Number(mark.times)],
-        )
-    } else {
-        put(text, "</title>", &[])
-    }
-}
+/// One of the drawn shapes, in the colour of a rank.
+const USE: &str = "<use href=\"#{}\" class=\"f{}\" x=\"{}\" y=\"{}\"/>\n";
 
-/// Adds its shape, in the ring of a receive of any source if it is one.
-fn put_shape(text: &mut Vec<u8>, mark: &Mark, at: u64, row: u64) -> io::Result<()> {
-    if mark.wild {
-        put_use(text, "ring", mark.spot.rank, at, row)?;
-    }
-    put_use(text, shape_name(mark.shape), mark.spot.rank, at, row)
-}
-
-/// Adds how many steps the hart took without a mark, if they are many.
-fn put_quiet(
-    text: &mut Vec<u8>,
-    mark: &Mark,
-    row: u64,
-    places: &mut Places,
-    layout: &Layout<'_>,
-) -> io::Result<()> {
-    let above = row.saturating_sub(11);
-    if mark.quiet < long(layout.drawing) || above < TOP {
-        return Ok(());
-    }
-    put_count(
-        text,
-        places,
-        layout.lane_of(mark.spot),
-        above,
-        mark.quiet,
-        "steps",
-    )
-}
-
-/// Adds what stands behind a mark's title: how many steps it stands for, its shape, and what is written beside it.
+/// Adds what stands behind a mark's title: how many steps it stands for, its shape, in the ring of a receive of any source if
+/// it is one, and what is written beside it; and how many steps the hart took without a mark, if they are many.
 fn put_behind(
     text: &mut Vec<u8>,
     places: &mut Places,
@@ -252,11 +177,25 @@ fn put_behind(
     row: u64,
 ) -> io::Result<()> {
     let at = layout.lane_of(mark.spot);
-    put_times(text, mark)?;
-    put_shape(text, mark, at, row)?;
+    let rank = Rank(mark.spot.rank);
+    let end = if mark.times > 1 {
+        "\nand more of its kind: {} in a row</title>"
+    } else {
+        "</title>"
+    };
+    put(text, end, &[Number(mark.times)])?;
+    if mark.wild {
+        put(text, USE, &[Words("ring"), rank, Across(at), Number(row)])?;
+    }
+    let name = Words(shape_name(mark.shape));
+    put(text, USE, &[name, rank, Across(at), Number(row)])?;
     put_note(text, places, layout, mark, at, row)?;
     put(text, "</g>\n", &[])?;
-    put_quiet(text, mark, row, places, layout)
+    let above = row.saturating_sub(11);
+    if mark.quiet < long(layout.drawing) || above < TOP {
+        return Ok(());
+    }
+    put_count(text, places, at, above, mark.quiet, "steps")
 }
 
 /// Adds a mark, with what is told of it.
@@ -304,19 +243,8 @@ pub(crate) fn all_marks(
 /// How far apart two places that stand in one column are.
 const PLACES_APART: u64 = 11;
 
-/// Adds the place of a mark at the left. Where there is no room in the first column it stands in the second, which a
-/// narrow page hasn't.
-fn put_place(text: &mut Vec<u8>, place: u64, row: u64, first: bool) -> io::Result<()> {
-    let down = row.saturating_add(3);
-    let (class, across) = if first { ("dim", 3) } else { ("dim wide", 36) };
-    put(
-        text,
-        "<text class=\"{}\" font-size=\"9\" x=\"{}\" y=\"{}\">{}</text>\n",
-        &[Words(class), Number(across), Number(down), Number(place)],
-    )
-}
-
-/// Adds the places of all marks, in two columns.
+/// Adds the places of all marks at the left. Where there is no room in the first column a place stands in the second, which
+/// a narrow page hasn't.
 pub(crate) fn put_places(text: &mut Vec<u8>, layout: &Layout<'_>) -> io::Result<()> {
     let mut number: usize = 0;
     let mut first: u64 = 0;
@@ -324,13 +252,26 @@ pub(crate) fn put_places(text: &mut Vec<u8>, layout: &Layout<'_>) -> io::Result<
     for mark in layout.drawing.marks.as_slice() {
         let row = layout.rows.get(number).copied().unwrap_or(0);
         number = number.saturating_add(1);
-        if row >= first.saturating_add(PLACES_APART) {
+        let (class, across) = if row >= first.saturating_add(PLACES_APART) {
             first = row;
-            put_place(text, mark.spot.place, row, true)?;
+            ("dim", 3)
         } else if row >= second.saturating_add(PLACES_APART) {
             second = row;
-            put_place(text, mark.spot.place, row, false)?;
-        }
+            ("dim wide", 36)
+        } else {
+            continue;
+        };
+        let down = row.saturating_add(3);
+        put(
+            text,
+            "<text class=\"{}\" font-size=\"9\" x=\"{}\" y=\"{}\">{}</text>\n",
+            &[
+                Words(class),
+                Number(across),
+                Number(down),
+                Number(mark.spot.place),
+            ],
+        )?;
     }
     Ok(())
 }

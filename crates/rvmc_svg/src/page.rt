@@ -26,49 +26,6 @@ use std::io;
 /// How many letters the name of a rank has.
 const NAME_LETTERS: usize = 7;
 
-/// Adds a lane's line, so far across.
-fn put_line(text: &mut Vec<u8>, at: u64, foot: u64) -> io::Result<()> {
-    put(
-        text,
-        "<line class=\"lane\" x1=\"{}\" x2=\"{}\" y1=\"{}\" y2=\"{}\"/>\n",
-        &[Across(at), Across(at), Number(TOP), Number(foot)],
-    )
-}
-
-/// Adds the lane of a hart, with the hart's name above it where a rank has several.
-fn put_lane(
-    text: &mut Vec<u8>,
-    drawing: &Drawing,
-    rank: u8,
-    hart: u8,
-    foot: u64,
-) -> io::Result<()> {
-    let at = lane_at(drawing, rank, hart);
-    put_line(text, at, foot)?;
-    if drawing.harts > 1 {
-        return put(
-            text,
-            "<text class=\"dim\" font-size=\"9\" text-anchor=\"middle\" x=\"{}\" y=\"38\"><tspan class=\"wide\">hart </tspan>{}</text>\n",
-            &[Across(at), Hart(hart)],
-        );
-    }
-    Ok(())
-}
-
-/// Adds the band behind a rank, whose middle stands so far across.
-fn put_band(text: &mut Vec<u8>, drawing: &Drawing, at: u64, foot: u64) -> io::Result<()> {
-    let share = share(drawing);
-    put(
-        text,
-        "<rect class=\"band\" x=\"{}\" width=\"{}\" y=\"8\" height=\"{}\"/>\n",
-        &[
-            Across(at.saturating_sub(share / 2)),
-            Across(share),
-            Number(foot.saturating_sub(8)),
-        ],
-    )
-}
-
 /// Adds the name of a rank, so far down.
 fn put_name(
     text: &mut Vec<u8>,
@@ -93,84 +50,64 @@ fn put_name(
     )
 }
 
-/// Takes the places of the names of all ranks, so far down.
-fn take_names_at(places: &mut Places, drawing: &Drawing, down: u64) -> io::Result<()> {
-    let wide = places.letters(NAME_LETTERS);
-    for rank in 0..drawing.ranks {
-        let left = rank_at(drawing, rank).saturating_sub(wide / 2);
-        places.take(left, wide, down)?;
-    }
-    Ok(())
-}
-
 /// Takes the places of all names below the first, so that nothing is written there.
 fn take_names(places: &mut Places, layout: &Layout<'_>) -> io::Result<()> {
+    let wide = places.letters(NAME_LETTERS);
     for number in 0..names_count(layout.foot) {
-        take_names_at(places, layout.drawing, names_at(number))?;
+        for rank in 0..layout.drawing.ranks {
+            let left = rank_at(layout.drawing, rank).saturating_sub(wide / 2);
+            places.take(left, wide, names_at(number))?;
+        }
     }
     Ok(())
 }
 
-/// Adds the names of all ranks once more, so far down.
-fn put_names_at(text: &mut Vec<u8>, drawing: &Drawing, down: u64) -> io::Result<()> {
-    for rank in 0..drawing.ranks {
-        put_name(text, drawing, rank, down, " halo again")?;
-    }
-    Ok(())
-}
-
-/// Adds them each time that a long picture would have none in view.
+/// Adds the names of all ranks each time that a long picture would have none in view.
 fn put_names(text: &mut Vec<u8>, layout: &Layout<'_>) -> io::Result<()> {
     for number in 0..names_count(layout.foot) {
-        put_names_at(text, layout.drawing, names_at(number))?;
+        for rank in 0..layout.drawing.ranks {
+            put_name(text, layout.drawing, rank, names_at(number), " halo again")?;
+        }
     }
     Ok(())
 }
 
-/// Adds a rank: its name above, a band behind every second one, and its lanes.
-fn put_rank(text: &mut Vec<u8>, drawing: &Drawing, rank: u8, foot: u64) -> io::Result<()> {
-    let at = rank_at(drawing, rank);
-    if rank % 2 == 1 {
-        put_band(text, drawing, at, foot)?;
-    }
-    put_name(text, drawing, rank, 24, "")?;
+/// Adds the lane of each hart of a rank, with the hart's name above it where a rank has several.
+fn put_lanes(text: &mut Vec<u8>, drawing: &Drawing, rank: u8, foot: u64) -> io::Result<()> {
     for hart in 0..drawing.harts {
-        put_lane(text, drawing, rank, hart, foot)?;
+        let at = Across(lane_at(drawing, rank, hart));
+        put(
+            text,
+            "<line class=\"lane\" x1=\"{}\" x2=\"{}\" y1=\"{}\" y2=\"{}\"/>\n",
+            &[at, at, Number(TOP), Number(foot)],
+        )?;
+        if drawing.harts > 1 {
+            put(
+                text,
+                "<text class=\"dim\" font-size=\"9\" text-anchor=\"middle\" x=\"{}\" y=\"38\"><tspan class=\"wide\">hart </tspan>{}</text>\n",
+                &[at, Hart(hart)],
+            )?;
+        }
     }
     Ok(())
 }
 
-/// Adds all ranks.
+/// Adds all ranks: of each its name above, a band behind every second one, and its lanes.
 fn put_ranks(text: &mut Vec<u8>, drawing: &Drawing, foot: u64) -> io::Result<()> {
+    let share = share(drawing);
     for rank in 0..drawing.ranks {
-        put_rank(text, drawing, rank, foot)?;
+        if rank % 2 == 1 {
+            let left = rank_at(drawing, rank).saturating_sub(share / 2);
+            put(
+                text,
+                "<rect class=\"band\" x=\"{}\" width=\"{}\" y=\"8\" height=\"{}\"/>\n",
+                &[Across(left), Across(share), Number(foot.saturating_sub(8))],
+            )?;
+        }
+        put_name(text, drawing, rank, 24, "")?;
+        put_lanes(text, drawing, rank, foot)?;
     }
     Ok(())
-}
-
-/// What lies below the arrows: the heads that they use, the lanes, the bars, the ribbons and the steps' numbers.
-fn put_under(text: &mut Vec<u8>, places: &mut Places, layout: &Layout<'_>) -> io::Result<()> {
-    let drawing = layout.drawing;
-    put_heads(text, drawing.ranks)?;
-    put_ranks(text, drawing, layout.foot)?;
-    take_names(places, layout)?;
-    put_bars(text, places, layout)?;
-    put_ribbons(text, layout)?;
-    put_places(text, layout)
-}
-
-/// Adds what lies above the marks or stands below them, to the end of the page, and tells the page's height: names, labels, the
-/// rows of the end, what is told of it, and the legend.
-fn put_over(text: &mut Vec<u8>, places: &mut Places, layout: &Layout<'_>) -> io::Result<u64> {
-    let drawing = layout.drawing;
-    put_names(text, layout)?;
-    put_labels(text, places, layout)?;
-    put_losses(text, places, layout)?;
-    let down = put_rows(text, drawing, layout.foot.saturating_add(20))?;
-    let down = put_told(text, drawing.told.as_slice(), down.saturating_add(10))?;
-    let high = put_legend(text, drawing, down.saturating_add(12))?;
-    put(text, "</svg>\n", &[])?;
-    Ok(high)
 }
 
 /// What stands before all that is drawn, on a page of this height.
@@ -189,10 +126,16 @@ fn put_front(text: &mut Vec<u8>, drawing: &Drawing, high: u64) -> io::Result<()>
     )
 }
 
-/// What lies below the arrows.
+/// What lies below the arrows: the heads that they use, the lanes, the bars, the ribbons and the steps' numbers.
 fn below(alloc: Global, places: &mut Places, layout: &Layout<'_>) -> io::Result<Vec<u8>> {
+    let drawing = layout.drawing;
     let mut text = Vec::new(alloc);
-    put_under(&mut text, places, layout)?;
+    put_heads(&mut text, drawing.ranks)?;
+    put_ranks(&mut text, drawing, layout.foot)?;
+    take_names(places, layout)?;
+    put_bars(&mut text, places, layout)?;
+    put_ribbons(&mut text, layout)?;
+    put_places(&mut text, layout)?;
     Ok(text)
 }
 
@@ -203,10 +146,17 @@ struct Upper {
     high: u64,
 }
 
-/// That of a page.
+/// That of a page: names, labels, the rows of the end, what is told of it, and the legend.
 fn over(alloc: Global, places: &mut Places, layout: &Layout<'_>) -> io::Result<Upper> {
+    let drawing = layout.drawing;
     let mut text = Vec::new(alloc);
-    let high = put_over(&mut text, places, layout)?;
+    put_names(&mut text, layout)?;
+    put_labels(&mut text, places, layout)?;
+    put_losses(&mut text, places, layout)?;
+    let down = put_rows(&mut text, drawing, layout.foot.saturating_add(20))?;
+    let down = put_told(&mut text, drawing.told.as_slice(), down.saturating_add(10))?;
+    let high = put_legend(&mut text, drawing, down.saturating_add(12))?;
+    put(&mut text, "</svg>\n", &[])?;
     Ok(Upper { text, high })
 }
 

@@ -3,7 +3,6 @@
 use crate::safe::put_text;
 use std::io;
 use std::io::Write;
-use std::slice::Iter;
 
 /// A piece of the text.
 #[derive(Clone, Copy, Drop)]
@@ -22,13 +21,6 @@ pub(crate) enum Piece<'a> {
     Across(u64),
 }
 
-/// Adds a length across, in per cent.
-fn put_across(text: &mut Vec<u8>, at: u64) -> io::Result<()> {
-    let whole = at / 100;
-    let part = at % 100;
-    write!(text, "{whole}.{part:02}%")
-}
-
 /// Adds a piece.
 fn put_piece(text: &mut Vec<u8>, piece: Piece<'_>) -> io::Result<()> {
     match piece {
@@ -36,24 +28,11 @@ fn put_piece(text: &mut Vec<u8>, piece: Piece<'_>) -> io::Result<()> {
         Piece::Guest(bytes) => put_text(text, bytes),
         Piece::Rank(number) | Piece::Hart(number) => write!(text, "{number}"),
         Piece::Number(number) => write!(text, "{number}"),
-        Piece::Across(at) => put_across(text, at),
-    }
-}
-
-/// Adds the next of these pieces.
-fn put_next(text: &mut Vec<u8>, pieces: &mut Iter<'_, Piece<'_>>) -> io::Result<()> {
-    match pieces.next() {
-        Some(piece) => put_piece(text, *piece),
-        None => Ok(()),
-    }
-}
-
-/// Adds a byte of a form, or the next piece where the form has braces.
-fn put_formed(text: &mut Vec<u8>, byte: u8, pieces: &mut Iter<'_, Piece<'_>>) -> io::Result<()> {
-    match byte {
-        b'{' => put_next(text, pieces),
-        b'}' => Ok(()),
-        _ => Ok(text.push(byte)?),
+        Piece::Across(at) => {
+            let whole = at / 100;
+            let part = at % 100;
+            write!(text, "{whole}.{part:02}%")
+        }
     }
 }
 
@@ -61,7 +40,15 @@ fn put_formed(text: &mut Vec<u8>, byte: u8, pieces: &mut Iter<'_, Piece<'_>>) ->
 pub(crate) fn put(text: &mut Vec<u8>, form: &str, pieces: &[Piece<'_>]) -> io::Result<()> {
     let mut pieces = pieces.iter();
     for byte in form.as_bytes() {
-        put_formed(text, *byte, &mut pieces)?;
+        match *byte {
+            b'{' => {
+                if let Some(piece) = pieces.next() {
+                    put_piece(text, *piece)?;
+                }
+            }
+            b'}' => {}
+            _ => text.push(*byte)?,
+        }
     }
     Ok(())
 }

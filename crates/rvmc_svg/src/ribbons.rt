@@ -3,7 +3,7 @@
 use crate::layout::{Layout, TOP};
 use crate::pieces::Piece::{Across, Number, Rank};
 use crate::pieces::put;
-use rvmc_draw::{Arrow, Carried, Spot};
+use rvmc_draw::{Arrow, Carried};
 use std::io;
 
 /// The link and the phase of an arrow that carries a partition to a step.
@@ -49,25 +49,6 @@ struct Reach {
     count: u64,
 }
 
-/// The reach with an arrow more, between these rows.
-fn reach_with(reach: Reach, from: u64, to: u64) -> Reach {
-    Reach {
-        from_top: reach.from_top.min(from),
-        from_foot: reach.from_foot.max(from),
-        to_top: reach.to_top.min(to),
-        to_foot: reach.to_foot.max(to),
-        count: reach.count.saturating_add(1),
-    }
-}
-
-/// The row where an arrow of a partition ends.
-fn end_of(layout: &Layout<'_>, arrow: &Arrow) -> u64 {
-    match arrow.to {
-        Some(spot) => layout.row_at(spot.place).unwrap_or(layout.foot),
-        None => layout.foot,
-    }
-}
-
 /// The reach of the arrows of a phase, and how many there are.
 fn reach_of(layout: &Layout<'_>, arrows: &[Arrow], phase: (u8, u64)) -> Reach {
     let mut reach = Reach {
@@ -78,34 +59,37 @@ fn reach_of(layout: &Layout<'_>, arrows: &[Arrow], phase: (u8, u64)) -> Reach {
         count: 0,
     };
     for arrow in arrows {
-        if is_of(arrow, phase) {
-            let from = layout.row_at(arrow.from.place).unwrap_or(TOP);
-            reach = reach_with(reach, from, end_of(layout, arrow));
+        if let Some(spot) = arrow.to {
+            if is_of(arrow, phase) {
+                let from = layout.row_at(arrow.from.place).unwrap_or(TOP);
+                let to = layout.row_at(spot.place).unwrap_or(layout.foot);
+                reach = Reach {
+                    from_top: reach.from_top.min(from),
+                    from_foot: reach.from_foot.max(from),
+                    to_top: reach.to_top.min(to),
+                    to_foot: reach.to_foot.max(to),
+                    count: reach.count.saturating_add(1),
+                };
+            }
         }
     }
     reach
 }
 
-/// Adds where a ribbon stands across and down.
-fn put_frame(text: &mut Vec<u8>, from: u64, to: u64, top: u64, high: u64) -> io::Result<()> {
+/// Adds a ribbon of a sender, from the one lane to the other: where it stands across and down, and its shape, from the
+/// sender's lane, at the row at the top, to the other, and back.
+fn put_ribbon(text: &mut Vec<u8>, rank: u8, from: u64, to: u64, reach: Reach) -> io::Result<()> {
     let left = from.min(to);
     let wide = from.max(to).saturating_sub(left);
+    let top = reach.from_top.min(reach.to_top);
+    let foot = reach.from_foot.max(reach.to_foot);
+    let high = Number(foot.saturating_sub(top).max(1));
+    let (begin, end) = if from < to { (0, 100) } else { (100, 0) };
     put(
         text,
         "<svg x=\"{}\" width=\"{}\" y=\"{}\" height=\"{}\" viewBox=\"0 0 100 {}\" preserveAspectRatio=\"none\">",
-        &[
-            Across(left),
-            Across(wide),
-            Number(top),
-            Number(high),
-            Number(high),
-        ],
-    )
-}
-
-/// Adds its shape: from the senders' lane, at the row at the top, to the other, and back.
-fn put_shape(text: &mut Vec<u8>, rank: u8, right: bool, reach: Reach, top: u64) -> io::Result<()> {
-    let (begin, end) = if right { (0, 100) } else { (100, 0) };
+        &[Across(left), Across(wide), Number(top), high, high],
+    )?;
     put(
         text,
         "<path class=\"f{} ribbon\" d=\"M{},{}L{},{}L{},{}L{},{}z\"/></svg>\n",
@@ -123,35 +107,7 @@ fn put_shape(text: &mut Vec<u8>, rank: u8, right: bool, reach: Reach, top: u64) 
     )
 }
 
-/// Adds a ribbon from the one lane to the other.
-fn put_ribbon(text: &mut Vec<u8>, rank: u8, from: u64, to: u64, reach: Reach) -> io::Result<()> {
-    let top = reach.from_top.min(reach.to_top);
-    let high = reach
-        .from_foot
-        .max(reach.to_foot)
-        .saturating_sub(top)
-        .max(1);
-    put_frame(text, from, to, top, high)?;
-    put_shape(text, rank, from < to, reach, top)
-}
-
-/// Adds the ribbon that begins with an arrow, which goes to this step, if its phase has several.
-fn put_phase(
-    text: &mut Vec<u8>,
-    layout: &Layout<'_>,
-    arrow: &Arrow,
-    to: Spot,
-    phase: (u8, u64),
-) -> io::Result<()> {
-    let reach = reach_of(layout, layout.drawing.arrows.as_slice(), phase);
-    if reach.count > 1 {
-        let from = layout.lane_of(arrow.from);
-        return put_ribbon(text, arrow.from.rank, from, layout.lane_of(to), reach);
-    }
-    Ok(())
-}
-
-/// Adds a ribbon for each phase of a link that has several arrows.
+/// Adds a ribbon for each phase of a link that has several arrows, where its first arrow is.
 pub(crate) fn put_ribbons(text: &mut Vec<u8>, layout: &Layout<'_>) -> io::Result<()> {
     let arrows = layout.drawing.arrows.as_slice();
     for number in 0..arrows.len() {
@@ -159,7 +115,11 @@ pub(crate) fn put_ribbons(text: &mut Vec<u8>, layout: &Layout<'_>) -> io::Result
         if let Some(phase) = phase_of(arrow) {
             if let Some(to) = arrow.to {
                 if is_first(&arrows[..number], phase) {
-                    put_phase(text, layout, arrow, to, phase)?;
+                    let reach = reach_of(layout, arrows, phase);
+                    if reach.count > 1 {
+                        let from = layout.lane_of(arrow.from);
+                        put_ribbon(text, arrow.from.rank, from, layout.lane_of(to), reach)?;
+                    }
                 }
             }
         }

@@ -4,10 +4,10 @@ use Rattle.std.proofs.Common.{refl, sym, ap, ◌∙◌, subst, arith}
 use Rattle.std.proofs.lemmas.Option.{slice_get_within}
 use Rattle.cl_record.specs.Plans.{HasPlans, IsPlan}
 use Rattle.cl_record.specs.declared.plans.Plan.{Plan}
-use Rattle.rv_image.specs.Image.{IsImage}
-use Rattle.rv_image.specs.declared.images.ImageParts.{ImageParts}
+use Rattle.rv_image_types.specs.Image.{IsImage}
+use Rattle.rv_image_types.specs.declared.images.ImageParts.{ImageParts}
 use Rattle.cl_machine.specs.declared.steps.Step.{Step}
-use Rattle.cl_order_laws.specs.Closed.{Node}
+use Rattle.rvmc_explore.specs.Below.{Node}
 use Rattle.cl_text.specs.Limits.{FitsStep}
 use Rattle.cl_text_laws.proofs.Runs.{runs_fit}
 use Rattle.rvmc_explore.specs.Recorded.{Leads, RecordsEnd}

@@ -4,7 +4,7 @@ use Rattle.std.specs.Prelude.{Bool, Ok, Option}
 use Rattle.std.proofs.KnownBytes.{Keeps-refl}
 use Rattle.cl_machine.specs.declared.steps.Step.{Step}
 use Rattle.cl_text.specs.Reading.{reading_record}
-use Rattle.rv_image.specs.declared.images.ImageParts.{ImageParts}
+use Rattle.rv_image_types.specs.declared.images.ImageParts.{ImageParts}
 use Rattle.rvmc_line.specs.declared.line.RecordCommand.{RecordCommand}
 use Rattle.rvmc_line.specs.declared.line.RecordCommand.TheVariants as command
 use Rattle.rvmc_list.specs.List.{IsList, ListFaultHolds}

@@ -8,7 +8,7 @@ use Rattle.cl_replay.proofs.Records.{merged_replays}
 use Rattle.cl_replay.specs.InnerReplaying.{BreaksAt, ReplayFaultHolds}
 use Rattle.cl_replay.specs.declared.replaying.ReplayFault.{ReplayFault}
 use Rattle.cl_replay.specs.declared.replaying.ReplayFault.TheVariants as replay
-use Rattle.rv_image.specs.declared.images.ImageParts.{ImageParts}
+use Rattle.rv_image_types.specs.declared.images.ImageParts.{ImageParts}
 
 -- none of a record's steps, in order, is refused as one that isn't the machine's
 pub no_break : (image : ImageParts) (left : Record) (sorted steps : List Step) (n k : ℕ) (fault : ReplayFault)

@@ -6,7 +6,7 @@ use Rattle.cl_record.specs.Plans.{HasPlans, IsOrder, IsPlan}
 use Rattle.cl_record.specs.declared.plans.Plan.{Plan}
 use Rattle.cl_record.specs.declared.records.RunFault.{RunFault}
 use Rattle.cl_record.specs.declared.records.RunFault.TheVariants as run
-use Rattle.rv_image.specs.declared.images.ImageParts.{ImageParts}
+use Rattle.rv_image_types.specs.declared.images.ImageParts.{ImageParts}
 use Rattle.rvmc_tool.specs.Making.{IsRunFault}
 use Rattle.rvmc_report.specs.OtherFaults.{fault_of_run}
 

@@ -5,7 +5,7 @@ use Rattle.std.specs.Io.KnownBytes.{Appends, Keeps}
 use Rattle.cl_machine.specs.declared.steps.Step.{Step}
 use Rattle.cl_text.specs.Reading.{reading_record}
 use Rattle.cl_text.specs.declared.faults.RecordFault.{RecordFault}
-use Rattle.rv_image.specs.declared.images.ImageParts.{ImageParts}
+use Rattle.rv_image_types.specs.declared.images.ImageParts.{ImageParts}
 use Rattle.rvmc_line.specs.declared.line.CommandLine.{CommandLine}
 use Rattle.rvmc_line.specs.declared.line.CommandLine.TheVariants.{Join, OfImage, OfRecord, Session, WordSession}
 use Rattle.rvmc_line.specs.declared.line.ImageCommand.{ImageCommand}
@@ -24,7 +24,7 @@ use Rattle.rvmc_tool.specs.Images.{image_in}
 use Rattle.rvmc_tool.specs.Making.{IsFaultOf, IsMisplanned, IsReadFault, IsUnexplored, RefusesImage}
 use Rattle.rvmc_tool.specs.Outputs.{output_bytes}
 use Rattle.rvmc_tool.specs.Plans.{listed}
-use Rattle.rvmc_tool.specs.Records.{SaysOfSteps}
+use Rattle.rvmc_tool.specs.Records.{SaysOfSteps, part_behind, record_part}
 use Rattle.rvmc_tool.specs.Taking.{IsFaultIn}
 use Rattle.rvmc_tool.specs.declared.answers.Answer.{Answer}
 use Rattle.rvmc_tool.specs.Lists.{LeavesList, TellsList, list_of}
@@ -52,7 +52,7 @@ misplanned other image wrong = absurd wrong
 -- and so is the record of an end that isn't there, and a start that isn't one
 unexplored : (command : ImageCommand) (image : ImageParts) (refusal : ExploreRefusal) → IsUnexplored command image refusal
     → Makes command image [] 1
-unexplored (Explore plan states turns asked) image (refusals.NoEnd number) (plans, of, (right, (is, none))) = (
+unexplored (Explore plan states turns asked) image (refusals.NoOutcome number) (plans, of, (right, (is, none))) = (
   plans,
   of,
   record {
@@ -87,16 +87,17 @@ leaves command (Err meant) faults.Memory is = inr (refl, refl)
 leaves command (Err meant) other is = absurd is
 
 -- what is said of a reading, where the output is empty
-abbrev SaysNothing : RecordCommand → Result (ImageParts × List Step) RecordFault → Fault → Type 0
-SaysNothing command read fault =
-    MatchResult read (λ found. SaysOfSteps command found.0 found.1 [] (fault_status fault))
+abbrev SaysNothing : RecordCommand → List ℕ → Result (ImageParts × List Step) RecordFault → Fault → Type 0
+SaysNothing command behind read fault =
+    MatchResult read (λ found. SaysOfSteps command behind found.0 found.1 [] (fault_status fault))
     (λ _. IsFaulty [] (fault_status fault))
 
-leaves_read : (command : RecordCommand) (read : Result (ImageParts × List Step) RecordFault) (fault : Fault)
-    → IsReadFault command read fault → SaysNothing command read fault ⊎ IsRefused [] (fault_status fault)
-leaves_read command read faults.Memory is = inr (refl, refl)
-leaves_read command (Ok found) fault is = inl (inr (fault, is, refl, refl))
-leaves_read command (Err meant) fault is = inl (refl, ap fault_status is)
+leaves_read : (command : RecordCommand) (behind : List ℕ) (read : Result (ImageParts × List Step) RecordFault)
+    (fault : Fault) → IsReadFault command read fault
+    → SaysNothing command behind read fault ⊎ IsRefused [] (fault_status fault)
+leaves_read command behind read faults.Memory is = inr (refl, refl)
+leaves_read command behind (Ok found) fault is = inl (inr (fault, is, refl, refl))
+leaves_read command behind (Err meant) fault is = inl (refl, ap fault_status is)
 
 -- what a fault leaves, of whatever a command takes
 abbrev LeavesOf : CommandLine → List ℕ → Fault → Type 0
@@ -112,9 +113,10 @@ leaves_of WordSession bytes fault is = absurd is
 leaves_of Join bytes faults.Memory is = inr (refl, refl)
 leaves_of Join bytes (faults.Explore refusal) is = inl (inl (inr ((refusal, is), (refl, refl))))
 leaves_of Join bytes other is = absurd is
-leaves_of (OfRecord command) bytes fault is = go (leaves_read command (reading_record bytes) fault is)
+leaves_of (OfRecord command) bytes fault is =
+    go (leaves_read command (part_behind command bytes) (reading_record (record_part command bytes)) fault is)
   where
-    go : SaysNothing command (reading_record bytes) fault ⊎ IsRefused [] (fault_status fault)
+    go : SaysNothing command (part_behind command bytes) (reading_record (record_part command bytes)) fault ⊎ IsRefused [] (fault_status fault)
         → LeavesOf (OfRecord command) bytes fault
     go (inl says) = inl (inl says)
     go (inr refused) = inr refused

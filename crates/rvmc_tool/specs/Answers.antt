@@ -1,6 +1,6 @@
 -- What each command answers: the text on standard output, and the status.
 use Rattle.std.specs.Prelude.{◌≡◌, ◌⊎◌, ◌++◌, ℕ, Bool, true, false, List, codes, length, MatchResult, Option, Some}
-use Rattle.cl_arrival_laws.specs.Runs.{IsArrivedRun}
+use Rattle.cl_ending.specs.Below.{IsArrivedRun}
 use Rattle.cl_ending.specs.DeadEnds.{IsFreeEnd, IsNotStuckAt, IsStuckAt}
 use Rattle.cl_machine.specs.Merge.{IsMerge}
 use Rattle.cl_machine.specs.declared.steps.Step.{Step}
@@ -14,9 +14,9 @@ use Rattle.cl_text.specs.Text.{record_text}
 use Rattle.cl_text.specs.Whole.{IsRecord}
 use Rattle.cl_threads.specs.Cuts.{IsEndedThreadRun, IsSomeTold}
 use Rattle.cl_threads.specs.Runs.{IsThreadRun}
-use Rattle.rv_image.specs.Image.{in_version_two}
+use Rattle.rv_image_types.specs.Image.{in_version_two}
 use Rattle.rv_image.specs.Text.{image_text}
-use Rattle.rv_image.specs.declared.images.ImageParts.{ImageParts}
+use Rattle.rv_image_types.specs.declared.images.ImageParts.{ImageParts}
 use Rattle.rvmc_line.specs.declared.line.CommandLine.{CommandLine}
 use Rattle.rvmc_line.specs.declared.line.CommandLine.TheVariants.{Join, OfImage, OfRecord, Session, WordSession}
 use Rattle.rvmc_line.specs.declared.line.ImageCommand.{ImageCommand}

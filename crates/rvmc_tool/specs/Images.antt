@@ -5,7 +5,7 @@ use Rattle.std.specs.Str.Lossy.{utf8_valid_len}
 use Rattle.rv_asm.specs.Source.{meaning}
 use Rattle.rv_asm_tokens.specs.declared.fault.AsmFaultKind.TheVariants as kinds
 use Rattle.rv_image.specs.Reading.{reading}
-use Rattle.rv_image.specs.declared.images.ImageParts.{ImageParts}
+use Rattle.rv_image_types.specs.declared.images.ImageParts.{ImageParts}
 use Rattle.rvmc_report.specs.Faults.{fault_of_image, fault_of_source}
 use Rattle.rvmc_report.specs.declared.faults.Fault.{Fault}
 use Rattle.rvmc_report.specs.declared.faults.Fault.TheVariants as faults

@@ -6,8 +6,8 @@ use Rattle.cl_record.specs.Records.{IsMergedRun}
 use Rattle.cl_record.specs.declared.records.Record.{Record}
 use Rattle.cl_text.specs.Reading.{reading_record}
 use Rattle.cl_text.specs.declared.faults.RecordFault.{RecordFault}
-use Rattle.rv_image.specs.Image.{IsImage}
-use Rattle.rv_image.specs.declared.images.ImageParts.{ImageParts}
+use Rattle.rv_image_types.specs.Image.{IsImage}
+use Rattle.rv_image_types.specs.declared.images.ImageParts.{ImageParts}
 use Rattle.rvmc_line.specs.declared.line.CommandLine.{CommandLine}
 use Rattle.rvmc_line.specs.declared.line.CommandLine.TheVariants.{Join, OfImage, OfRecord, Session, WordSession}
 use Rattle.rvmc_line.specs.declared.line.ImageCommand.{ImageCommand}
@@ -24,7 +24,7 @@ use Rattle.rvmc_report.specs.declared.faults.ListRefusal.TheVariants as refusal
 use Rattle.rvmc_tool.specs.Answers.{ByPlans, HasThreads, IsOne, IsOneUntilStuck, IsRunAnswer, IsThreadsUntilStuck}
 use Rattle.rvmc_tool.specs.Images.{image_in}
 use Rattle.rvmc_tool.specs.Plans.{listed}
-use Rattle.rvmc_tool.specs.Records.{RefusesSteps, TellsOfSteps}
+use Rattle.rvmc_tool.specs.Records.{RefusesSteps, TellsOfSteps, part_behind, record_part}
 use Rattle.rvmc_tool.specs.Starting.{IsJoinFault, IsNoStart}
 use Rattle.rvmc_tool.specs.Taking.{IsFaultIn}
 use Rattle.rvmc_tool.specs.Unexplored.{IsNoEnd}
@@ -41,7 +41,8 @@ IsWhole (Cut fault) = ⊥
 -- an answer to a record is what the command tells of its image and its steps
 abbrev pub HasTold : RecordCommand → List ℕ → List ℕ → End → Type 0
 HasTold command bytes text end =
-    MatchResult (reading_record bytes) (λ read. TellsOfSteps command read.0 read.1 text end) (λ _. ⊥)
+    MatchResult (reading_record (record_part command bytes))
+    (λ read. TellsOfSteps command (part_behind command bytes) read.0 read.1 text end) (λ _. ⊥)
 
 -- how it ends: what is told of a record may be cut short
 abbrev pub EndsSo : CommandLine → List ℕ → List ℕ → End → Type 0
@@ -158,7 +159,7 @@ IsReadFault command read fault =
 -- of what a command takes from the bytes
 abbrev pub IsFaultOf : CommandLine → List ℕ → Fault → Type 0
 IsFaultOf (OfImage source command) bytes fault = IsImageFault source command bytes fault
-IsFaultOf (OfRecord command) bytes fault = IsReadFault command (reading_record bytes) fault
+IsFaultOf (OfRecord command) bytes fault = IsReadFault command (reading_record (record_part command bytes)) fault
 IsFaultOf (Session rank) bytes fault = ⊥
 IsFaultOf WordSession bytes fault = ⊥
 IsFaultOf Join bytes fault = IsJoinFault bytes fault

@@ -1,7 +1,7 @@
 -- What a command says of the image and the steps of a record, and for which fault it says nothing: one definition of each
 -- a command.
-use Rattle.std.specs.Prelude.{◌≡◌, ◌≤◌, ◌⊎◌, ℕ, Bool, false, List, [], length, MatchResult, Option, None, Some}
-use Rattle.std.specs.List.{All}
+use Rattle.std.specs.Prelude.{◌≡◌, ◌≤◌, ◌⊎◌, ◌-◌, ℕ, Bool, false, List, [], ◌∷◌, drop, length, take, MatchResult, Option, None, Some}
+use Rattle.std.specs.List.{All, sum_by}
 use Rattle.cl_debug.specs.declared.faults.DebugFault.{DebugFault}
 use Rattle.cl_debug.specs.declared.faults.DebugFault.TheVariants as debug
 use Rattle.cl_machine.specs.declared.steps.Step.{Step}
@@ -13,8 +13,8 @@ use Rattle.cl_replay.specs.declared.checking.Verdict.{Verdict}
 use Rattle.cl_replay.specs.declared.replaying.ReplayFault.TheVariants as replay
 use Rattle.cl_replay.specs.declared.states.ClusterState.{ClusterState}
 use Rattle.cl_text.specs.Reading.{reading_record}
-use Rattle.rv_image.specs.Image.{IsImage}
-use Rattle.rv_image.specs.declared.images.ImageParts.{ImageParts}
+use Rattle.rv_image_types.specs.Image.{IsImage}
+use Rattle.rv_image_types.specs.declared.images.ImageParts.{ImageParts}
 use Rattle.rvmc_draw.specs.declared.drawing.Drawing.{Drawing}
 use Rattle.rvmc_inspect.specs.Why.{IsWhy}
 use Rattle.rvmc_inspect.specs.Words.{IsTextOfWords}
@@ -22,11 +22,13 @@ use Rattle.rvmc_words.specs.declared.debug.DebugWord.{DebugWord}
 use Rattle.rvmc_line.specs.declared.line.RecordCommand.{RecordCommand}
 use Rattle.rvmc_line.specs.declared.line.RecordCommand.TheVariants.{Check, Debug, Draw, List as ListSteps, Page, Report}
 use Rattle.rvmc_line.specs.declared.line.RecordCommand.TheVariants.{Stats, Why}
+use Rattle.rvmc_line.specs.declared.texts.SourceSize.{SourceSize}
 use Rattle.rvmc_list.specs.List.{IsList, ListFaultHolds}
 use Rattle.rvmc_list.specs.Stats.{IsStats}
 use Rattle.rvmc_list.specs.declared.folding.Wanted.{Wanted}
 use Rattle.rvmc_list.specs.declared.walk.ListFault.TheVariants as list
 use Rattle.rvmc_page.specs.Records.{IsPage, PageFaultHolds}
+use Rattle.rvmc_page.specs.Texts.{Source}
 use Rattle.rvmc_page.specs.declared.records.PageFault.TheVariants as page
 use Rattle.rvmc_picture.specs.Pictures.{DrawFaultHolds, IsDrawing, view_of}
 use Rattle.rvmc_picture.specs.declared.pictures.DrawFault.TheVariants as draw
@@ -43,6 +45,28 @@ use Rattle.rvmc_svg.specs.Shown.{IsShown}
 use Rattle.rvmc_tool.specs.Ends.{IsFaulty, end_status}
 use Rattle.rvmc_tool.specs.declared.answers.End.{End}
 use Rattle.rvmc_tool.specs.declared.answers.End.TheVariants.{Cut, Status}
+
+-- ---- what is read
+
+-- how many bytes sources have
+abbrev pub size_of_all : List SourceSize → ℕ
+size_of_all texts = sum_by (λ one. one.size) texts
+
+-- the bytes of the record: all that are read, but for the sources of a page, which stand behind it
+abbrev pub record_part : RecordCommand → List ℕ → List ℕ
+record_part (Page from to texts) bytes = take (length bytes - size_of_all texts) bytes
+record_part other bytes = bytes
+
+-- the bytes behind it
+abbrev pub part_behind : RecordCommand → List ℕ → List ℕ
+part_behind (Page from to texts) bytes = drop (length bytes - size_of_all texts) bytes
+part_behind other bytes = []
+
+-- of these the sources, one behind the other
+abbrev pub sources_in : List SourceSize → List ℕ → List Source
+sources_in [] bytes = []
+sources_in (one ∷ others) bytes =
+    record { name = one.name; bytes = take one.size bytes } ∷ sources_in others (drop one.size bytes)
 
 -- ---- `check`
 
@@ -160,18 +184,20 @@ IsNoPlace image steps n other = ⊥
 
 -- ---- all of them
 
--- what stands on the output, and how it ends. The status of `why` tells nothing of the verdict
-abbrev pub TellsOfSteps : RecordCommand → ImageParts → List Step → List ℕ → End → Type 0
-TellsOfSteps Check image steps text end = IsChecked image steps text end
-TellsOfSteps Report image steps text end = IsReported image steps text end
-TellsOfSteps (ListSteps from to rank calls) image steps text end =
+-- what stands on the output, and how it ends, of what stood behind the record, of its image and its steps. The status of
+-- `why` tells nothing of the verdict
+abbrev pub TellsOfSteps : RecordCommand → List ℕ → ImageParts → List Step → List ℕ → End → Type 0
+TellsOfSteps Check behind image steps text end = IsChecked image steps text end
+TellsOfSteps Report behind image steps text end = IsReported image steps text end
+TellsOfSteps (ListSteps from to rank calls) behind image steps text end =
     IsList image steps (wanted_of from to rank calls) text × (end ≡ Status 0)
-TellsOfSteps (Stats from to rank) image steps text end =
+TellsOfSteps (Stats from to rank) behind image steps text end =
     IsStats image steps (counted_of from to rank) text × (end ≡ Status 0)
-TellsOfSteps (Draw from to) image steps text end = IsPicture image steps from to text × (end ≡ Status 0)
-TellsOfSteps (Page from to) image steps text end = IsPage image steps (view_of from to steps) text × (end ≡ Status 0)
-TellsOfSteps (Debug words) image steps text end = IsDebugged image steps words text end
-TellsOfSteps (Why at frames) image steps text end =
+TellsOfSteps (Draw from to) behind image steps text end = IsPicture image steps from to text × (end ≡ Status 0)
+TellsOfSteps (Page from to texts) behind image steps text end =
+    IsPage image steps (view_of from to steps) (sources_in texts behind) text × (end ≡ Status 0)
+TellsOfSteps (Debug words) behind image steps text end = IsDebugged image steps words text end
+TellsOfSteps (Why at frames) behind image steps text end =
     IsWhyAt frames image steps (place_asked at steps) text × (end ≡ Status 0)
 
 -- for which fault of the input nothing does
@@ -182,18 +208,18 @@ RefusesSteps (ListSteps from to rank calls) image steps fault =
     IsNoList image steps (wanted_of from to rank calls) fault
 RefusesSteps (Stats from to rank) image steps fault = IsNoList image steps (counted_of from to rank) fault
 RefusesSteps (Draw from to) image steps fault = IsNoPicture image steps from to fault
-RefusesSteps (Page from to) image steps fault = IsNoPage image steps from to fault
+RefusesSteps (Page from to texts) image steps fault = IsNoPage image steps from to fault
 RefusesSteps (Debug words) image steps fault = IsNoRun image steps fault
 RefusesSteps (Why at frames) image steps fault = IsNoPlace image steps (place_asked at steps) fault
 
 -- the one or the other
-abbrev pub SaysOfSteps : RecordCommand → ImageParts → List Step → List ℕ → ℕ → Type 0
-SaysOfSteps command image steps text status =
-    ((end : End) × TellsOfSteps command image steps text end × (status ≡ end_status end))
+abbrev pub SaysOfSteps : RecordCommand → List ℕ → ImageParts → List Step → List ℕ → ℕ → Type 0
+SaysOfSteps command behind image steps text status =
+    ((end : End) × TellsOfSteps command behind image steps text end × (status ≡ end_status end))
     ⊎ ((fault : Fault) × RefusesSteps command image steps fault × (text ≡ []) × (status ≡ fault_status fault))
 
 -- of the record that the bytes spell. Bytes that spell none are a fault of the input
 abbrev pub SaysOfRecord : RecordCommand → List ℕ → List ℕ → ℕ → Type 0
 SaysOfRecord command bytes text status =
-    MatchResult (reading_record bytes) (λ read. SaysOfSteps command read.0 read.1 text status)
-    (λ _. IsFaulty text status)
+    MatchResult (reading_record (record_part command bytes))
+    (λ read. SaysOfSteps command (part_behind command bytes) read.0 read.1 text status) (λ _. IsFaulty text status)

@@ -1,11 +1,11 @@
 -- What `explore --split`, `--from` and `--join` answer.
 use Rattle.std.specs.Prelude.{⊤, ℕ, ◌+◌, ◌≡◌, ◌≢◌, ◌⊎◌, List, Option, Some, None}
 use Rattle.rv_image.specs.Text.{image_text}
-use Rattle.rv_image.specs.declared.images.ImageParts.{ImageParts}
+use Rattle.rv_image_types.specs.declared.images.ImageParts.{ImageParts}
 use Rattle.cl_machine.specs.declared.steps.Step.{Step}
 use Rattle.cl_record.specs.Plans.{HasPlans}
 use Rattle.cl_record.specs.declared.plans.Plan.{Plan}
-use Rattle.cl_explore.specs.Orders.{IsTurnless}
+use Rattle.rvmc_explore.specs.Below.{IsTurnless}
 use Rattle.cl_text.specs.Text.{record_text}
 use Rattle.cl_text.specs.Whole.{IsRecord}
 use Rattle.rvmc_explore.specs.Splitting.{IsSplit}
@@ -53,7 +53,7 @@ abbrev pub IsNoStart : ImageParts → Start → (states turns : ℕ) → Option 
 IsNoStart image start states turns asked refusal.OtherImage = start.image ≢ sum_of (image_text image)
 IsNoStart image start states turns asked (refusal.NoTurn number) =
     (place : ℕ) × (number ≡ place + 1) × IsTurnless image start.harts start.turns place
-IsNoStart image start states turns asked (refusal.NoEnd number) =
+IsNoStart image start states turns asked (refusal.NoOutcome number) =
     (asked ≡ Some number) × RecordsEndBehind image start states turns number None
 IsNoStart image start states turns asked other = ⊥
 

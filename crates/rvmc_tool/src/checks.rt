@@ -10,7 +10,7 @@ use crate::answers::{Answer, End};
 use crate::outputs::Output;
 use cl_machine::Step;
 use cl_replay::check;
-use rv_image::Image;
+use rv_image_types::Image;
 use rvmc_report::faults::Fault;
 use rvmc_report::verdicts::{verdict_status, verdict_text};
 use std::alloc::Global;

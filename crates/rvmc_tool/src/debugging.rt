@@ -10,7 +10,7 @@ use crate::answers::{Answer, End};
 use crate::outputs::Output;
 use cl_debug::{DebugFault, Debugger};
 use cl_machine::Step;
-use rv_image::Image;
+use rv_image_types::Image;
 use rvmc_inspect::tell_all;
 use rvmc_report::faults::Fault;
 use rvmc_words::DebugWords;

@@ -11,7 +11,7 @@ ghost use Rattle.rvmc_tool.specs.declared.answers.End.TheVariants.{Status};
 use crate::answers::{Answer, End};
 use crate::outputs::Output;
 use cl_machine::Step;
-use rv_image::Image;
+use rv_image_types::Image;
 use rvmc_draw::Drawing;
 use rvmc_picture::{DrawFault, drawing};
 use rvmc_report::faults::{DrawRefusal, Fault};

@@ -14,7 +14,7 @@ use cl_machine::Step;
 use cl_merge::merge;
 use cl_record::Record;
 use cl_replay::{ReplayFault, replay};
-use rv_image::Image;
+use rv_image_types::Image;
 use rvmc_inspect::why;
 use rvmc_report::faults::Fault;
 use rvmc_report::report::report;

@@ -3,7 +3,7 @@
 ghost use Rattle.std.specs.Prelude.{◌≡◌, ◌<◌, IfErr, IfOk, Some, length};
 ghost use Rattle.cl_record.specs.Plans.{HasPlans};
 ghost use Rattle.rvmc_explore.specs.Telling.{Tells};
-ghost use Rattle.rv_image.specs.Image.{IsImage};
+ghost use Rattle.rv_image_types.specs.Image.{IsImage};
 ghost use Rattle.rvmc_tool.specs.Answers.{ByPlans, IsExplored};
 ghost use Rattle.rvmc_tool.specs.Ends.{end_status};
 ghost use Rattle.rvmc_tool.specs.Exploring.{IsEndRecord, IsToldOfSearch};
@@ -17,7 +17,7 @@ use crate::outputs::Output;
 use crate::plans::{listed, plans_of};
 use cl_record::has_plans;
 use cl_text::RecordText;
-use rv_image::Image;
+use rv_image_types::Image;
 use rvmc_explore::{Asked, Told, explored, recorded};
 use rvmc_report::faults::{ExploreRefusal, Fault};
 use rvmc_words::Numbers;
@@ -63,7 +63,7 @@ fn record_of_end(
             let end = End::Status(0);
             Ok(Answer { output, end })
         }
-        Ok(None) => Err(Fault::Explore(ExploreRefusal::NoEnd(number))),
+        Ok(None) => Err(Fault::Explore(ExploreRefusal::NoOutcome(number))),
         Err(_) => Err(Fault::Memory),
     }
 }

@@ -6,7 +6,8 @@ ghost use Rattle.rvmc_tool.specs.Hints.{wanted_by};
 use crate::images::image_in;
 use cl_debug::DebugFault;
 use cl_text::RecordFault;
-use rv_image::{Image, Symbol, read_image};
+use rv_image::read_image;
+use rv_image_types::{Image, Symbol};
 use rvmc_hints::{
     Hint, Wanted, content_hint, is_near, magic_hint, plans_hint, short_hint, source_hint,
 };

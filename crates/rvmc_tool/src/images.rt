@@ -6,7 +6,8 @@ ghost use Rattle.rvmc_tool.specs.Images.{image_in, source_image, spelled_image, 
 ghost use Rattle.rvmc_tool.specs.Taking.{Reads};
 
 use rv_asm::{AsmFault, AsmFaultKind, assemble};
-use rv_image::{Image, read_image};
+use rv_image::read_image;
+use rv_image_types::Image;
 use rvmc_report::faults::Fault;
 use std::alloc::Global;
 

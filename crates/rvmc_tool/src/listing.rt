@@ -18,7 +18,7 @@ use crate::answers::Answer;
 use crate::program::{fail, fail_with_hint, take};
 use crate::records::read;
 use cl_machine::Step;
-use rv_image::Image;
+use rv_image_types::Image;
 use rvmc_line::CommandLine;
 use rvmc_list::{ListFault, Wanted, list, stats};
 use rvmc_report::faults::{Fault, ListRefusal};

@@ -5,7 +5,7 @@ ghost use Rattle.cl_state.specs.Rank.{below};
 ghost use Rattle.rvmc_tool.specs.Plans.{ArePlansOf, IsPlanOf, listed};
 
 use cl_record::Plan;
-use rv_image::Image;
+use rv_image_types::Image;
 use rvmc_words::Numbers;
 use std::alloc::{AllocError, Global};
 

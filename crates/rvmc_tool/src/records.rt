@@ -8,7 +8,7 @@ ghost use Rattle.rvmc_tool.specs.Ends.{end_status};
 ghost use Rattle.rvmc_tool.specs.Making.{HasTold, IsReadFault, IsStepsFault, IsUnread};
 ghost use Rattle.rvmc_tool.specs.Lists.{is_list};
 ghost use Rattle.rvmc_tool.specs.Outputs.{output_bytes};
-ghost use Rattle.rvmc_tool.specs.Records.{SaysOfRecord, TellsOfSteps};
+ghost use Rattle.rvmc_tool.specs.Records.{SaysOfRecord, TellsOfSteps, part_behind, record_part};
 
 use crate::answers::Answer;
 use crate::checks::checked;
@@ -16,11 +16,11 @@ use crate::debugging::debugged;
 use crate::drawing::pictured;
 use crate::explaining::explained;
 use crate::listing::counted_steps;
-use crate::paging::paged;
+use crate::paging::{paged, split};
 use crate::reporting::reported;
 use cl_machine::Step;
 use cl_text::read_record;
-use rv_image::Image;
+use rv_image_types::Image;
 use rvmc_line::RecordCommand;
 use rvmc_report::faults::Fault;
 use std::alloc::Global;
@@ -33,18 +33,19 @@ pub(crate) fn read(alloc: Global, bytes: &[u8]) -> Result<(Image, Vec<Step>), Fa
     Ok(read_record(alloc, bytes)?)
 }
 
-/// What a command that only looks at the image and the steps of a record tells of them, or the fault for which it tells
-/// nothing: one case a command. What `list` tells isn't made here: it is written as it is made.
+/// What a command that only looks at the image and the steps of a record, and at what stood behind it, tells of them, or the
+/// fault for which it tells nothing: one case a command. What `list` tells isn't made here: it is written as it is made.
 fn told_of(
     alloc: Global,
     command: &RecordCommand,
+    behind: &[u8],
     image: &Image,
     steps: &[Step],
 ) -> Result<Answer, Fault>
     requires list { is_list command.now ≡ false }
     requires looks { (words : List DebugWord) → command.now ≢ asked.Debug words }
     ensures tells { IfOk result (λ answer.
-        TellsOfSteps command.now image.now steps.now (output_bytes answer.output) answer.end) }
+        TellsOfSteps command.now behind.now image.now steps.now (output_bytes answer.output) answer.end) }
     ensures fault { IfErr result (IsStepsFault command.now image.now steps.now) }
 {
     match command {
@@ -54,32 +55,52 @@ fn told_of(
             counted_steps(alloc, *from, *to, *rank, image, steps)
         }
         RecordCommand::Draw { from, to } => pictured(alloc, *from, *to, image, steps),
-        RecordCommand::Page { from, to } => paged(*from, *to, alloc, image, steps),
+        RecordCommand::Page { from, to, texts } => {
+            paged(*from, *to, texts, behind, alloc, image, steps)
+        }
         RecordCommand::Why { at, frames } => explained(alloc, *at, *frames, image, steps),
         RecordCommand::List { .. } | RecordCommand::Debug { .. } => unreachable!(),
     }
 }
 
-/// What a command tells of the image and the steps of a record. A debugger keeps both; what only looks at them borrows
+/// What a command tells of the image and the steps of a record, and of what stood behind it. A debugger keeps both; what only looks at them borrows
 /// them.
 fn told(
     alloc: Global,
     command: &RecordCommand,
+    behind: &[u8],
     image: Image,
     steps: Vec<Step>,
 ) -> Result<Answer, Fault>
     requires { is_list command.now ≡ false }
     ensures tells { IfOk result (λ answer.
-        TellsOfSteps command.now image steps.items (output_bytes answer.output) answer.end) }
+        TellsOfSteps command.now behind.now image steps.items (output_bytes answer.output) answer.end) }
     ensures fault { IfErr result (IsStepsFault command.now image steps.items) }
 {
     match command {
         RecordCommand::Debug { words } => debugged(alloc, words, image, steps),
-        _ => told_of(alloc, command, &image, &steps),
+        _ => told_of(alloc, command, behind, &image, &steps),
     }
 }
 
-/// What a command answers to the bytes of a record.
+/// The bytes of the record, and those behind it.
+fn parts<'a>(command: &RecordCommand, bytes: &'a [u8]) -> (&'a [u8], &'a [u8])
+    ensures record { result.0.now ≡ record_part command.now bytes.now }
+    ensures behind { result.1.now ≡ part_behind command.now bytes.now }
+{
+    match command {
+        RecordCommand::Page { texts, .. } => split(texts.as_slice(), bytes),
+        RecordCommand::Check
+        | RecordCommand::Report
+        | RecordCommand::Debug { .. }
+        | RecordCommand::List { .. }
+        | RecordCommand::Stats { .. }
+        | RecordCommand::Draw { .. }
+        | RecordCommand::Why { .. } => (bytes, &[]),
+    }
+}
+
+/// What a command answers to the bytes of a record, and to those behind it.
 #[tactic(auto, using(crate::proofs::Readings::has_told, crate::proofs::Readings::of_steps, crate::proofs::Readings::says, crate::proofs::Readings::unread))]
 pub(crate) fn answer_of_record(
     alloc: Global,
@@ -90,9 +111,10 @@ pub(crate) fn answer_of_record(
     ensures says { IfOk result (λ answer.
         SaysOfRecord command.now bytes.now (output_bytes answer.output) (end_status answer.end)) }
     ensures ends { IfOk result (λ answer. HasTold command.now bytes.now (output_bytes answer.output) answer.end) }
-    ensures fault { IfErr result (IsReadFault command.now (reading_record bytes.now)) }
+    ensures fault { IfErr result (IsReadFault command.now (reading_record (record_part command.now bytes.now))) }
 {
-    let (image, steps) = read(alloc, bytes)?;
-    let answer = told(alloc, command, image, steps)?;
+    let (record, behind) = parts(command, bytes);
+    let (image, steps) = read(alloc, record)?;
+    let answer = told(alloc, command, behind, image, steps)?;
     Ok(answer)
 }

@@ -2,7 +2,7 @@
 
 ghost use Rattle.std.specs.Prelude.{◌≡◌, IfErr, IfOk};
 ghost use Rattle.cl_record.specs.Plans.{ArePlans, HasPlans};
-ghost use Rattle.rv_image.specs.Image.{IsImage};
+ghost use Rattle.rv_image_types.specs.Image.{IsImage};
 ghost use Rattle.rvmc_tool.specs.Answers.{ByPlans, IsLeftByOne, IsLeftByThreads, IsRecordOf};
 ghost use Rattle.rvmc_tool.specs.Making.{IsLeft};
 ghost use Rattle.rvmc_tool.specs.Answers.{IsRunBy, IsTextOf};
@@ -24,7 +24,7 @@ use cl_record::{Plan, Record};
 use cl_run::run_one;
 use cl_text::RecordText;
 use cl_threads::{Pace, run_threads};
-use rv_image::Image;
+use rv_image_types::Image;
 use rvmc_line::Written;
 use rvmc_report::faults::Fault;
 use rvmc_report::report::{report, status};

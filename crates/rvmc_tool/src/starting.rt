@@ -2,8 +2,8 @@
 //! together.
 
 ghost use Rattle.std.specs.Prelude.{◌≡◌, ◌<◌, ℕ, Option, IfErr, IfOk, Some, length};
-ghost use Rattle.rv_image.specs.Image.{IsImage};
-ghost use Rattle.rv_image.specs.declared.images.ImageParts.{ImageParts};
+ghost use Rattle.rv_image_types.specs.Image.{IsImage};
+ghost use Rattle.rv_image_types.specs.declared.images.ImageParts.{ImageParts};
 ghost use Rattle.cl_record.specs.Plans.{HasPlans};
 ghost use Rattle.rvmc_explore.specs.Starting.{StartFaultHolds, TellsFrom};
 ghost use Rattle.rvmc_tool.specs.Answers.{ByPlans, IsExploredFrom, IsSplitOf};
@@ -17,7 +17,7 @@ use crate::outputs::Output;
 use crate::plans::{listed, plans};
 use cl_record::has_plans;
 use cl_text::RecordText;
-use rv_image::Image;
+use rv_image_types::Image;
 use rvmc_explore::{
     Asked, Reach, StartFault, Told, explored_from, recorded_from, split as starts_of,
 };
@@ -118,7 +118,7 @@ fn record_of_end(
             let end = End::Status(0);
             Ok(Answer { output, end })
         }
-        Ok(None) => Err(Fault::Explore(ExploreRefusal::NoEnd(number))),
+        Ok(None) => Err(Fault::Explore(ExploreRefusal::NoOutcome(number))),
         Err(fault) => Err(fault_of(start, fault)),
     }
 }

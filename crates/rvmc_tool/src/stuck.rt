@@ -2,7 +2,7 @@
 
 ghost use Rattle.std.specs.Prelude.{◌≡◌, IfErr, IfOk};
 ghost use Rattle.cl_record.specs.Plans.{ArePlans, HasPlans};
-ghost use Rattle.rv_image.specs.Image.{IsImage};
+ghost use Rattle.rv_image_types.specs.Image.{IsImage};
 ghost use Rattle.rvmc_report.specs.Report.{rank_ends, status_of};
 ghost use Rattle.rvmc_tool.specs.Answers.{IsRunUntilStuck, IsThreadsUntilStuckBy, IsToldReport, IsToldTextOf, is_framed};
 ghost use Rattle.rvmc_tool.specs.Ends.{end_status};
@@ -16,7 +16,7 @@ use crate::runs::{record_of, told};
 use cl_ending::{Outcome, Stuck, StuckThreads, run_one_until_stuck, run_threads_until_stuck};
 use cl_record::{Plan, Record};
 use cl_threads::Pace;
-use rv_image::Image;
+use rv_image_types::Image;
 use rvmc_line::Written;
 use rvmc_report::faults::Fault;
 use rvmc_report::report::status;

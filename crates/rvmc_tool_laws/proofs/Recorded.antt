@@ -12,7 +12,7 @@ use Rattle.cl_replay.specs.declared.checking.Verdict.TheVariants.{BadAt, Good}
 use Rattle.cl_text.proofs.ReadAgain.{read_again}
 use Rattle.cl_text.specs.Reading.{reading_record}
 use Rattle.cl_text.specs.declared.faults.RecordFault.{RecordFault}
-use Rattle.rv_image.specs.declared.images.ImageParts.{ImageParts}
+use Rattle.rv_image_types.specs.declared.images.ImageParts.{ImageParts}
 use Rattle.rvmc_tool.specs.Answers.{IsOne, IsOneUntilStuck, IsRecordOf, IsRunAnswer, IsRunBy, IsTextOf, IsThreadsUntilStuck}
 use Rattle.rvmc_tool.specs.Answers.{IsToldOfThreads}
 use Rattle.cl_record.specs.declared.plans.Plan.{Plan}
@@ -80,13 +80,13 @@ good_text text told ended is says = go (reading_record text) refl says
         absurd (is (λ m. true≢false (sym (not_bad text image steps told end checked read m) ∙ ap is_good e)))
 
     of_steps : (image : ImageParts) (steps : List Step) → reading_record text ≡ Ok (image, steps)
-        → SaysOfSteps Check image steps told ended → IsGood told ended
+        → SaysOfSteps Check [] image steps told ended → IsGood told ended
     of_steps image steps read (inl (end, checked, ends)) =
         by image steps end checked ends read checked.verdict refl
     of_steps image steps read (inr (fault, refuses, none, status)) = absurd refuses
 
     go : (r : Read) → reading_record text ≡ r
-        → MatchResult r (λ read. SaysOfSteps Check read.0 read.1 told ended) (λ _. IsFaulty told ended)
+        → MatchResult r (λ read. SaysOfSteps Check [] read.0 read.1 told ended) (λ _. IsFaulty told ended)
         → IsGood told ended
     go (Ok read) e says = of_steps read.0 read.1 e says
     go (Err fault) e faulty = absurd (is (λ m. ok≢err _ _ (sym (reads text m) ∙ e)))

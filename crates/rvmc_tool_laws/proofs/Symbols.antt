@@ -2,7 +2,7 @@
 use Rattle.std.proofs.Common.{ℕ, ◌≡◌, ◌∙◌, ◌<◌, ◌≤◌, ◌&&◌, ◌⊎◌, inl, inr, Bool, true, false, cond, List, [], ◌∷◌, ap, refl, subst, sym, arith}
 use Rattle.std.specs.Prelude.{MatchOption, Option, Some, None, nat_le, nat_lt}
 use Rattle.std.specs.List.{AllByRecursion}
-use Rattle.rv_image.specs.declared.images.Symbol.{Symbol}
+use Rattle.rv_image_types.specs.declared.images.Symbol.{Symbol}
 use Rattle.rvmc_tool_laws.specs.Waits.{IsNearest, NearestLaw}
 use Rattle.rvmc_places.specs.Places.{is_nearer, nearest_from}
 

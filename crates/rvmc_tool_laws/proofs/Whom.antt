@@ -1,7 +1,7 @@
 -- Whom the text names.
 use Rattle.std.proofs.Common.{ℕ, ◌≡◌, Bool, ap, refl}
 use Rattle.std.specs.Prelude.{Option, Some, None}
-use Rattle.rv_image.specs.declared.images.Link.{Link}
+use Rattle.rv_image_types.specs.declared.images.Link.{Link}
 use Rattle.mp_match.specs.declared.posts.Post.{Post}
 use Rattle.mp_match.specs.declared.posts.Post.TheVariants.{Send, Receive, Claim}
 use Rattle.mp_transfers.specs.Inits.{is_to}

@@ -8,7 +8,7 @@ use Rattle.cl_record.specs.declared.plans.Plan.{Plan}
 use Rattle.cl_replay.specs.declared.checking.Verdict.TheVariants.{Good}
 use Rattle.cl_machine.specs.declared.steps.Step.{Step}
 use Rattle.cl_deadlock.specs.Why.{IsVerdictOf}
-use Rattle.rv_image.specs.declared.images.ImageParts.{ImageParts}
+use Rattle.rv_image_types.specs.declared.images.ImageParts.{ImageParts}
 use Rattle.rvmc_tool.specs.Answers.{IsLeftByThreads, IsTextOf, IsTold, Says}
 use Rattle.rvmc_tool.specs.Ends.{IsDone}
 use Rattle.rvmc_tool.specs.Records.{IsWhyAt}

@@ -5,3 +5,4 @@
 pub mod answers;
 pub mod frames;
 pub mod waits;
+pub mod witnesses;

@@ -3,7 +3,7 @@ use Rattle.std.specs.Prelude.{ℕ, Bool, List, [], ◌∷◌, length, false, Opt
 use Rattle.std.specs.Prelude.{codes, nat_lt, option_and_then, option_map}
 use Rattle.std.specs.List.{list_all, slice_split}
 use Rattle.std.specs.Str.{bytes_eq}
-use Rattle.rv_image.specs.Names.{begins_with_digit, is_digit, is_name_byte}
+use Rattle.rv_image_types.specs.Names.{begins_with_digit, is_digit, is_name_byte}
 use Rattle.rvmc_words.specs.Number.{any_number_in}
 use Rattle.rvmc_words.specs.declared.debug.DebugWord.{DebugWord}
 use Rattle.rvmc_words.specs.declared.debug.DebugWord.TheVariants.{Back, Break, Bytes, Frames, Go, Output, Place, Regs, Run, Step}

@@ -3,7 +3,7 @@
 ghost use Rattle.std.specs.Prelude.{◌≡◌, ◌==◌, ◌++◌, ◌∷◌, [], IfOk, OnErr, OnOk, map};
 ghost use Rattle.std.specs.Prelude.{Some, option_and_then, option_map};
 ghost use Rattle.std.specs.List.{list_all, slice_split};
-ghost use Rattle.rv_image.specs.Names as names;
+ghost use Rattle.rv_image_types.specs.Names as names;
 ghost use Rattle.rvmc_words.specs.declared.debug.DebugWord.TheVariants.{Break, Bytes};
 ghost use Rattle.rvmc_words.specs.Debug.{bare_word, break_in, bytes_word_in, debug_word_in, frames_in, go_in, is_name};
 ghost use Rattle.rvmc_words.specs.Debug.{is_line_number, large_number_in, line_spot, output_in, regs_in, small_number_in};

@@ -2,8 +2,8 @@
 use Rattle.std.specs.Prelude.{◌≡◌, ℕ, ◌-◌, ◌^◌, List, [], ◌∷◌, ◌++◌, map, replicate, set, Option, Some, None, true}
 use Rattle.std.specs.Prelude.{false}
 use Rattle.rv_memory.specs.Memory.{Memory}
-use Rattle.rv_image.specs.declared.images.ImageVersion.{ImageVersion}
-use Rattle.rv_image.specs.declared.images.ImageVersion.TheVariants.{One, Two}
+use Rattle.rv_image_types.specs.declared.images.ImageVersion.{ImageVersion}
+use Rattle.rv_image_types.specs.declared.images.ImageVersion.TheVariants.{One, Two}
 use Rattle.mp_types.specs.declared.codes.Code.{Code}
 use Rattle.mp_types.specs.declared.codes.Code.TheVariants as code
 use Rattle.mp_request.specs.declared.entries.OpenRequest.{OpenRequest}

@@ -1,6 +1,6 @@
 -- Positions in communicators, of rank 0 of 2 whose communicator 1 has the ranks in the other order.
 use Rattle.std.specs.Prelude.{◌≡◌, ◌-◌, ◌^◌, [], ◌∷◌, map, Some, None, Bool, true, false}
-use Rattle.rv_image.specs.declared.images.ImageVersion.TheVariants.{One}
+use Rattle.rv_image_types.specs.declared.images.ImageVersion.TheVariants.{One}
 use Rattle.cl_calls.specs.declared.needs.Peer.{Peer}
 use Rattle.cl_calls.specs.declared.sites.Site.{Site}
 use Rattle.cl_calls.specs.Checks.{is_comm, is_peer}

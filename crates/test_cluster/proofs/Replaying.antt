@@ -1,7 +1,7 @@
 -- What replays are refused for.
 use Rattle.std.specs.Prelude.{ℕ, ◌≡◌, ◌<◌, List, Result, Err, IfErr}
 use Rattle.std.proofs.Common.{subst, arith}
-use Rattle.rv_image.specs.declared.images.ImageParts.{ImageParts}
+use Rattle.rv_image_types.specs.declared.images.ImageParts.{ImageParts}
 use Rattle.cl_machine.specs.declared.steps.Step.{Step}
 use Rattle.cl_machine.specs.Cluster.{loaded_cluster}
 use Rattle.cl_replay.specs.declared.states.ClusterState.{ClusterState}

@@ -1,6 +1,6 @@
 -- A step that takes what stands in a box, and the box behind it.
 use Rattle.std.specs.Prelude.{ℕ, ◌≡◌, ◌<◌, List, length, slice_get, false, Some}
-use Rattle.rv_image.specs.declared.images.ImageParts.{ImageParts}
+use Rattle.rv_image_types.specs.declared.images.ImageParts.{ImageParts}
 use Rattle.part_box.specs.declared.settled.Settled.{Settled}
 use Rattle.cl_state.specs.declared.asking.Ask.{Ask}
 use Rattle.cl_trace.specs.declared.events.Kind.{Kind}

@@ -9,7 +9,7 @@ ghost use Rattle.test_cluster.specs.Checks.{TakesAtAnother, TakesNothing};
 
 use cl_machine::Step;
 use cl_replay::{Verdict, check};
-use rv_image::Image;
+use rv_image_types::Image;
 use std::alloc::{AllocError, Global};
 
 /// No steps are good, of every image.

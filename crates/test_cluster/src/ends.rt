@@ -3,10 +3,10 @@
 ghost use Rattle.std.specs.Prelude.{◌≡◌, ◌++◌, ℕ, IfOk, List, Ok, Some, length};
 ghost use Rattle.cl_machine.specs.declared.steps.Step.{Step};
 ghost use Rattle.cl_text.specs.Reading.{reading_record};
-ghost use Rattle.rv_image.specs.declared.images.ImageParts.{ImageParts};
+ghost use Rattle.rv_image_types.specs.declared.images.ImageParts.{ImageParts};
 
-use cl_front::Scan;
-use cl_front::laws::end_law;
+use cl_text::front::Scan;
+use cl_text::front::laws::end_law;
 use std::alloc::{AllocError, Global};
 
 /// A record is decided by its last byte and by none before, the bytes of its last step's reply among them, whatever

@@ -6,7 +6,7 @@ ghost use Rattle.cl_record.specs.Records.{IsMergedRun, steps_in};
 ghost use Rattle.cl_replay.specs.Records.{ShowsRecord};
 ghost use Rattle.cl_replay.specs.declared.checking.Verdict.TheVariants as verdict;
 ghost use Rattle.cl_text.specs.Limits.{FitsStep};
-ghost use Rattle.rv_image.specs.Image.{IsImage};
+ghost use Rattle.rv_image_types.specs.Image.{IsImage};
 
 use cl_machine::Step;
 use cl_merge::merge;
@@ -14,7 +14,7 @@ use cl_record::{Plan, Record};
 use cl_replay::{ClusterState, Verdict, check, merged_is_good_law, merged_replays_law, replay};
 use cl_run::run_one;
 use cl_text_laws::laws::records_fit_law;
-use rv_image::Image;
+use rv_image_types::Image;
 use std::alloc::Global;
 
 /// What a run leaves, and its steps in order of their stamps.

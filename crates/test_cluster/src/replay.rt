@@ -8,7 +8,7 @@ ghost use Rattle.cl_replay.specs.declared.replaying.ReplayFault.TheVariants as f
 
 use cl_machine::Step;
 use cl_replay::{ClusterState, ReplayFault, replay};
-use rv_image::Image;
+use rv_image_types::Image;
 use std::alloc::Global;
 
 /// The end of the list isn't past it: all steps may be replayed.

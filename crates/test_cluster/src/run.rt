@@ -7,7 +7,7 @@ ghost use Rattle.cl_record.specs.declared.plans.Plan.{Plan};
 ghost use Rattle.test_cluster.specs.Runs.{AllBudgetsAreUsed, IsLedOffBy, OfEachRank, RoundAndRound};
 
 use cl_run::{Loaded, Plan, Record, RunFault, are_plans, run_one};
-use rv_image::Image;
+use rv_image_types::Image;
 use std::alloc::Global;
 
 /// Plans of fewer ranks than the image has, or of more, are refused.

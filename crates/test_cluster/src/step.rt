@@ -1,7 +1,7 @@
 //! What a step of a cluster leaves.
 
 ghost use Rattle.std.specs.Prelude.{ℕ, OnOk};
-ghost use Rattle.rv_image.specs.declared.images.ImageParts.{ImageParts};
+ghost use Rattle.rv_image_types.specs.declared.images.ImageParts.{ImageParts};
 ghost use Rattle.cl_machine.specs.Cluster.{Cluster};
 ghost use Rattle.cl_replay.specs.States.{ClusterStandsFor};
 ghost use Rattle.test_cluster.specs.Taken.{IsVacant, TakesFrom};

@@ -1,7 +1,7 @@
 //! Who is found to be stuck.
 
 ghost use Rattle.std.specs.Prelude.{◌≡◌, ℕ, IfOk, IsSomeAnd, IsTrue, List, true};
-ghost use Rattle.rv_image.specs.declared.images.ImageParts.{ImageParts};
+ghost use Rattle.rv_image_types.specs.declared.images.ImageParts.{ImageParts};
 ghost use Rattle.mp_wait_laws.specs.Waits.{OnlyOf};
 ghost use Rattle.cl_machine.specs.Cluster.{Cluster};
 ghost use Rattle.cl_deadlock_laws.specs.Stuck.{AreStuck, SomeWaits, is_among};

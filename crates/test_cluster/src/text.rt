@@ -1,12 +1,12 @@
 //! Records as bytes.
 ghost use Rattle.std.specs.Prelude.{List, Err};
-ghost use Rattle.rv_image.specs.declared.images.ImageParts.{ImageParts};
+ghost use Rattle.rv_image_types.specs.declared.images.ImageParts.{ImageParts};
 ghost use Rattle.cl_machine.specs.declared.steps.Step.{Step};
 ghost use Rattle.cl_text.specs.ReadingAnswers.{AnswersBy};
 
 use cl_machine::Step;
 use cl_text::{RecordFault, read_record};
-use rv_image::Image;
+use rv_image_types::Image;
 use std::alloc::Global;
 
 /// A byte behind the end is told, with where the end is, unless memory is refused: the record of no step of one `nop`,

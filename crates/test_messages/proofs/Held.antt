@@ -3,7 +3,7 @@ use Rattle.std.proofs.Common.{◌≡◌, ◌+◌, ◌≤◌, ◌↔◌, ℕ, zer
 use Rattle.std.specs.Prelude.{nat_lt}
 use Rattle.std.specs.List.{slice_get, slice_set}
 use Rattle.std.proofs.lemmas.Bool.{ltb-false, ltb-true}
-use Rattle.rv_image.specs.declared.images.Link.{Link}
+use Rattle.rv_image_types.specs.declared.images.Link.{Link}
 use Rattle.mp_types.specs.declared.codes.Code.TheVariants.{Full}
 use Rattle.mp_types.specs.declared.messages.Message.{Message}
 use Rattle.mp_types.specs.declared.replies.Reply.{Reply}

@@ -3,11 +3,11 @@
 ghost use Rattle.std.specs.Prelude.{◌≡◌, ◌++◌, ◌∷◌, IfOk, List, Ok, OnOk, codes, ℕ};
 ghost use Rattle.cl_machine.specs.declared.steps.Step.{Step};
 ghost use Rattle.cl_text.specs.Reading.{reading_record};
-ghost use Rattle.rv_image.specs.declared.images.ImageParts.{ImageParts};
+ghost use Rattle.rv_image_types.specs.declared.images.ImageParts.{ImageParts};
 ghost use Rattle.rvmc_gdb.specs.Serving.{Serving};
 ghost use Rattle.rvmc_gdb.specs.Talks.{connected};
 ghost use Rattle.rvmc_gdb.specs.declared.server.Flow.TheVariants as flows;
-ghost use Rattle.rvmc_packets.specs.Frames.{packet_of};
+ghost use Rattle.rvmc_protocol.specs.Packets.Frames.{packet_of};
 
 use rvmc_gdb::laws::heard_law;
 use rvmc_gdb::{Flow, Server};

@@ -5,7 +5,6 @@ pub mod answers;
 pub mod cli;
 pub mod gdb;
 pub mod inspected;
-pub mod laws;
 pub mod line;
 pub mod report;
 pub mod tool;

@@ -6,7 +6,7 @@ ghost use Rattle.rvmc_changes.specs.Laws.{WalksThere};
 ghost use Rattle.rvmc_changes.specs.WalkFaults.{last_place};
 
 use cl_machine::Step;
-use rv_image::Image;
+use rv_image_types::Image;
 use rvmc_changes::laws::walk_law;
 use rvmc_changes::{Walk, WalkFault, walk};
 use std::alloc::Global;

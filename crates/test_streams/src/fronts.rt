@@ -1,6 +1,6 @@
 //! A record by hand, as docs/FORMATS.md lays it out, cut at each byte and with each byte changed.
 
-use cl_front::{Scan, read_front};
+use cl_text::front::{Scan, read_front};
 use cl_text::{RecordFault, read_record};
 use std::alloc::{AllocError, Global};
 use std::io::Read;

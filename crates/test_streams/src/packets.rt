@@ -1,8 +1,8 @@
 //! Streams, packets and payloads, and texts of answers. The sums are those that gdb and gdbserver write.
 
-use rvmc_packets::{Message, Reader, put_packet};
-use rvmc_replies::{Stop, put_part, put_register, put_stop, put_supported, put_threads};
-use rvmc_requests::{Request, request_in};
+use rvmc_protocol::packets::{Message, Reader, put_packet};
+use rvmc_protocol::replies::{Stop, put_part, put_register, put_stop, put_supported, put_threads};
+use rvmc_protocol::requests::{Request, request_in};
 use std::alloc::{AllocError, Global};
 use std::io;
 

@@ -1,5 +1,5 @@
 //! A writer that takes every byte, and can't flush it. Reads and writes that fail are made with the built program, by
-//! `tests/lines`; its own streams keep nothing back, so there no flush can fail.
+//! `tests/checks/lines`; its own streams keep nothing back, so there no flush can fail.
 
 use rvmc_tool::tool_plain;
 use std::io::{self, Write};

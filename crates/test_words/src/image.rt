@@ -1,11 +1,12 @@
 //! The bytes of a program (rv_image).
 ghost use Rattle.std.specs.Prelude.{◌≡◌, length, Err, IfOk, false, true};
-ghost use Rattle.rv_image.specs.Image.{IsImage, in_version_two};
+ghost use Rattle.rv_image_types.specs.Image.{IsImage, in_version_two};
 ghost use Rattle.rv_image.specs.Text.{image_text};
 
-use rv_image::{
-    Comms, Image, ImageFault, ImageParts, Link, Links, Members, Segment, Symbol, SymbolName,
-    Symbols, is_symbol_name, name_before, read_image, write_image,
+use rv_image::{ImageFault, read_image, write_image};
+use rv_image_types::{
+    Comms, Image, ImageParts, Link, Links, Members, Segment, Symbol, SymbolName, Symbols,
+    is_symbol_name, name_before,
 };
 use std::alloc::{AllocError, Global};
 

@@ -9,7 +9,7 @@ use mp_match::{Line, Queues};
 use mp_probe::{Claims, Waiting};
 use mp_transfers::Side;
 use mp_types::Bytes;
-use rv_image::Link;
+use rv_image_types::Link;
 use std::alloc::{AllocError, Global};
 
 /// What a hub is made of, as lists: the image's links, the posts, the claimed messages that weren't received and the

@@ -10,7 +10,7 @@ use super::{HubState, has_distinct, selection_of};
 use mp_match::Post;
 use mp_transfers::{find_sender, receives_over};
 use mp_types::Request;
-use rv_image::Link;
+use rv_image_types::Link;
 
 // Whether the post is a receive or a claim of the rank.
 fn is_taken_by(rank: u8, post: Post) -> bool

@@ -1,8 +1,8 @@
 use Rattle.std.proofs.Common.{ℕ, ◌<◌, ◌⊎◌}
-use Rattle.rv_image.specs.declared.images.ImageParts.{ImageParts}
+use Rattle.rv_image_types.specs.declared.images.ImageParts.{ImageParts}
 use Rattle.cl_state.specs.Room.{rank_of}
 use Rattle.cl_state_laws.specs.Vain.{IsStopped, mode_of}
-use Rattle.cl_machine.specs.Cluster.{Cluster}
+use Rattle.cl_replay.specs.Below.{Cluster}
 use Rattle.cl_replay.specs.States.{ClusterStandsFor}
 use Rattle.cl_deadlock_laws.specs.Stuck.{IsStuckHart}
 use Rattle.cl_deadlock.proofs.companies.is_stuck_beside.Given as goal

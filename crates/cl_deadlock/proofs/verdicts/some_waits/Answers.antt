@@ -1,8 +1,8 @@
 use Rattle.std.proofs.Common.{ℕ, ◌==◌, refl, get_or}
 use Rattle.std.proofs.lemmas.Bool.{eq-eqb, iff_false}
 use Rattle.std.proofs.lemmas.List.Folds.{list_any_at}
-use Rattle.rv_image.specs.declared.images.ImageParts.{ImageParts}
-use Rattle.cl_machine.specs.Cluster.{Cluster}
+use Rattle.rv_image_types.specs.declared.images.ImageParts.{ImageParts}
+use Rattle.cl_replay.specs.Below.{Cluster}
 use Rattle.cl_replay.specs.States.{ClusterStandsFor}
 use Rattle.cl_deadlock.proofs.InTurn.{all_of, one_more}
 use Rattle.cl_deadlock.proofs.Waits.{Waits}

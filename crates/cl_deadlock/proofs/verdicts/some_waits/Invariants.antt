@@ -1,6 +1,6 @@
 use Rattle.std.proofs.Common.{ℕ, IsTrue, take}
-use Rattle.rv_image.specs.declared.images.ImageParts.{ImageParts}
-use Rattle.cl_machine.specs.Cluster.{Cluster}
+use Rattle.rv_image_types.specs.declared.images.ImageParts.{ImageParts}
+use Rattle.cl_replay.specs.Below.{Cluster}
 use Rattle.cl_replay.specs.States.{ClusterStandsFor}
 use Rattle.cl_deadlock_laws.specs.Stuck.{is_among}
 use Rattle.cl_deadlock.proofs.Waits.{Waits}

@@ -1,4 +1,4 @@
-use Rattle.rv_image.specs.declared.images.ImageParts.{ImageParts}
+use Rattle.rv_image_types.specs.declared.images.ImageParts.{ImageParts}
 use Rattle.cl_machine.specs.Cluster.{loaded_cluster}
 use Rattle.cl_replay.specs.States.{ClusterStandsFor}
 use Rattle.cl_debug.proofs.Keeping.{KeptSoFar}

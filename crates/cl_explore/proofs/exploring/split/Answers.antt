@@ -1,4 +1,4 @@
-use Rattle.std.proofs.Common.{false}
+use Rattle.cl_explore.specs.How.{plainly}
 use Rattle.cl_moves.proofs.Asking.{if_ok_on}
 use Rattle.cl_explore.specs.Ends.{findings}
 use Rattle.cl_explore.proofs.Finds.{explored_start}
@@ -7,5 +7,5 @@ use Rattle.cl_explore.proofs.exploring.split.Goals as goal
 pub returns-clause-ends : goal.returns-clause-ends
 returns-clause-ends c =
     if_ok_on c.search_plainly.result
-    (λ found from. explored_start false c.args.image.now c.args.course.now.order.now c.in_ok-standing.standing
-    (findings found) c.in_ok-standing.ensures from) c.search_plainly.ensures.ends
+    (λ found from. explored_start plainly c.args.image.now c.args.course.now.order.now c.in_ok-standing.standing
+    (findings found) c.in_ok-standing.ensures tt from) c.search_plainly.ensures.ends

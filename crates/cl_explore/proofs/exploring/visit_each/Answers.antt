@@ -4,12 +4,13 @@ use Rattle.cl_explore.specs.Covering.{HasRoomAt}
 use Rattle.cl_explore.specs.Ends.{AreEnough, HasLonger}
 use Rattle.cl_explore.proofs.Finds.{more_from, none_from, tells_from}
 use Rattle.cl_explore.proofs.exploring.visit_each.Goals as goal
+use Rattle.cl_explore.specs.How.{how_in}
 use Rattle.cl_explore.proofs.exploring.visit_each.Goals.{then-rest-test+then-goes_on+else-not-is_deep, then-rest-test+else-goes_on, else-rest-test}
 
 pub rest-init : goal.rest-init
 rest-init c = (
   λ standing begun.
-      none_from c.args.course.now.sure c.args.course.now.order.now standing c.args.search.now
+      none_from (how_in c.args.course.now) c.args.course.now.order.now standing c.args.search.now
       c.new.result.items c.new-2.result.items begun c.new.ensures.items c.new-2.ensures.items,
   omega (arith),
 )
@@ -18,19 +19,19 @@ pub rest-preserved : goal.rest-preserved
 rest-preserved c =
     let old = c.rest.search.nodes in
     let inside : c.rest.done < length old.items = omega (arith, c.goes_on.ensures.more c.if-goes_on.true, c.len.ensures, old.ok.0) in
-    let room = subst (λ ks. HasRoomAt c.args.course.now.sure ks c.rest.done) c.as_slice-in-rest.ensures.value
-    (c.has_room_at.ensures.room c.if-not-has_room_at.false) in (
+    let room = subst (λ ks. HasRoomAt (how_in c.args.course.now) ks c.rest.done) c.as_slice-in-rest.ensures.value
+    (c.has_room_at.ensures.room c.if-not-has_room_at.false c.args.course.now.patterns.now.kept.items) in (
       λ standing begun.
-          more_from c.args.course.now.sure c.args.course.now.order.now standing c.rest.search c.visit.new.self
+          more_from (how_in c.args.course.now) c.args.course.now.order.now standing c.rest.search c.visit.new.self
           c.rest.noted.ends.items c.note_visit.new.noted.ends.items c.rest.noted.companies.items
           c.note_visit.new.noted.companies.items c.rest.done (c.rest.invariant.0 standing begun) inside room
-          c.in_ok-visit.visit c.in_ok-visit.ensures c.in_ok-note_visit.ensures.ends c.in_ok-note_visit.ensures.stuck,
+          c.in_ok-visit.visit c.in_ok-visit.ensures.visits c.in_ok-note_visit.ensures.ends c.in_ok-note_visit.ensures.stuck,
       omega (arith, c.rest-test.true),
     )
 
 pub returns-clause-ends : goal.returns-clause-ends
 returns-clause-ends c = λ standing room begun.
-    tells_from c.args.course.now.sure c.args.course.now.order.now standing c.rest.search _
+    tells_from (how_in c.args.course.now) c.args.course.now.order.now standing c.rest.search _
     c.rest.done room (c.rest.invariant.0 standing begun) refl refl
     (omega (arith, c.saturating_sub-left.ensures, c.len-2.ensures, c.rest.search.nodes.ok.0))
 

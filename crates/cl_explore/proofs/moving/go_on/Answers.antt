@@ -1,15 +1,19 @@
 use Rattle.std.proofs.Common.{subst, sym}
+use Rattle.cl_explore.specs.How.{how_of}
 use Rattle.cl_explore.specs.Searching.{GoesOn}
 use Rattle.cl_explore.proofs.Covers.{goes_plainly, goes_surely}
 use Rattle.cl_explore.proofs.moving.go_on.Goals as goal
 
-pub returns-in_ok-go_surely : goal.returns-in_ok-go_surely
-returns-in_ok-go_surely c =
-    subst (λ sure. GoesOn sure c.args.course.now.order.now c.args.live.now c.go_surely.new.self) (sym c.if-course.true)
-    (goes_surely c.args.course.now.order.now c.args.live.now c.go_ahead.new.self c.go_surely.new.self
-    c.in_ok-fewer.ensures c.in_ok-go_surely.ensures)
+pub returns-in_ok-go_ahead-in-Plainly-clause-on : goal.returns-in_ok-go_ahead-in-Plainly-clause-on
+returns-in_ok-go_ahead-in-Plainly-clause-on c =
+    let kept = c.args.course.now.patterns.now.kept.items in
+    subst (λ goes. GoesOn (how_of goes kept) c.args.course.now.order.now c.args.live.now c.go_ahead.new.self) (sym c.in-Plainly.is)
+    (goes_plainly c.args.course.now.order.now c.args.live.now c.go_ahead.new.self c.in_ok-go_ahead-in-Plainly.ensures)
 
-pub returns-else-course : goal.returns-else-course
-returns-else-course c =
-    subst (λ sure. GoesOn sure c.args.course.now.order.now c.args.live.now c.go_ahead.new.self) (sym c.if-course.false)
-    (goes_plainly c.args.course.now.order.now c.args.live.now c.go_ahead.new.self c.in_ok-fewer.ensures)
+pub returns-in_ok-go_surely-in-AtOnce-clause-on : goal.returns-in_ok-go_surely-in-AtOnce-clause-on
+returns-in_ok-go_surely-in-AtOnce-clause-on c =
+    let kept = c.args.course.now.patterns.now.kept.items in
+    subst (λ goes. GoesOn (how_of goes kept) c.args.course.now.order.now c.args.live.now c.go_surely.new.self)
+    (sym c.in-AtOnce.is)
+    (goes_surely c.args.course.now.order.now c.args.live.now c.go_ahead-in-AtOnce.new.self c.go_surely.new.self
+    c.in_ok-fewer-in-AtOnce.ensures c.in_ok-go_surely-in-AtOnce.ensures)

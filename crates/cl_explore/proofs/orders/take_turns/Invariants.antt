@@ -1,4 +1,4 @@
-use Rattle.rv_image.specs.declared.images.ImageParts.{ImageParts}
+use Rattle.rv_image_types.specs.declared.images.ImageParts.{ImageParts}
 use Rattle.cl_moves.specs.Standing.{IsStart}
 use Rattle.cl_explore.proofs.Following.{LedSoFar}
 use Rattle.cl_explore.proofs.orders.take_turns.Given as goal

@@ -1,4 +1,4 @@
-use Rattle.std.proofs.Common.{arith, sym, subst}
+use Rattle.std.proofs.Common.{arith}
 use Rattle.cl_explore.proofs.Winding.{run_length}
 use Rattle.cl_explore.proofs.runs.turns_in.Goals as goal
 

@@ -1,6 +1,6 @@
 use Rattle.std.proofs.Common.{◌∙◌, sym, ap, subst, map}
 use Rattle.std.proofs.lemmas.Option.{slice_get_within}
-use Rattle.rv_image.specs.declared.images.Link.{Link}
+use Rattle.rv_image_types.specs.declared.images.Link.{Link}
 use Rattle.part_channel.specs.Channels.{receiver_box, sender_box}
 use Rattle.part_channel.specs.Receiving.{RecvView}
 use Rattle.part_channel.specs.Sending.{SendView}

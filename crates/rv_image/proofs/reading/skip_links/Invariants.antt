@@ -1,6 +1,6 @@
 -- How the loop past the links stands before each turn.
 use Rattle.std.proofs.Common.{◌≡◌, List, [], ◌-◌, length}
-use Rattle.rv_image.specs.declared.images.Link.{Link}
+use Rattle.rv_image_types.specs.declared.images.Link.{Link}
 use Rattle.rv_image.specs.Reading.{repeated, next_link}
 use Rattle.rv_image.proofs.reading.skip_links.Given as goal
 

@@ -1,6 +1,6 @@
 -- How the loop past the symbols stands before each turn.
 use Rattle.std.proofs.Common.{◌≡◌, List, [], ◌-◌, length}
-use Rattle.rv_image.specs.declared.images.Symbol.{Symbol}
+use Rattle.rv_image_types.specs.declared.images.Symbol.{Symbol}
 use Rattle.rv_image.specs.Reading.{repeated, next_symbol, last_name}
 use Rattle.rv_image.proofs.reading.skip_symbols.Given as goal
 

@@ -1,7 +1,7 @@
 -- The symbols are read as `repeated` says: a fault at a turn, one more symbol, the last one.
 use Rattle.std.proofs.Common.{◌≡◌, ◌++◌, ◌∷◌, [], refl, Ok, Err, length, arith}
 use Rattle.std.proofs.lemmas.Result.{err_from_is_err_and}
-use Rattle.rv_image.specs.declared.images.Symbol.{Symbol}
+use Rattle.rv_image_types.specs.declared.images.Symbol.{Symbol}
 use Rattle.rv_image.specs.Reading.{repeated, next_symbol}
 use Rattle.rv_image.proofs.Loop.{told, step_stops, step_goes, steps_done}
 use Rattle.rv_image.proofs.Rising.{last_name-push}

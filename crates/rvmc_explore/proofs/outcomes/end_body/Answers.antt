@@ -1,4 +1,4 @@
-use Rattle.std.proofs.Common.{List, ℕ, [], subst}
+use Rattle.std.proofs.Common.{List, ℕ, subst}
 use Rattle.rvmc_explore.specs.Ends.{IsEndText}
 use Rattle.rvmc_explore.proofs.outcomes.end_body.Goals as goal
 

@@ -1,4 +1,4 @@
-use Rattle.std.proofs.Common.{Some, ◌-◌, ◌∙◌, ◌≡◌, ap, arith, suc, sym}
+use Rattle.std.proofs.Common.{Some, ◌-◌, ◌∙◌, ap, arith, sym}
 use Rattle.rvmc_explore.specs.declared.outcomes.Outcome.{Outcome}
 use Rattle.cl_explore.proofs.Lists.{read_of}
 use Rattle.rvmc_explore.proofs.ToEnds.{numbered_none, numbered_some}

@@ -1,5 +1,4 @@
-use Rattle.std.proofs.Common.{arith}
-use Rattle.rvmc_explore.proofs.Listed.{each_told, none_told, one_told}
+use Rattle.rvmc_explore.proofs.Listed.{one_told}
 use Rattle.rvmc_explore.proofs.starting.ends_told.Goals as goal
 
 pub loop-place-preserved : goal.loop-place-preserved

@@ -1,4 +1,4 @@
-use Rattle.std.proofs.Common.{◌<◌, ◌≤◌, arith, get_or, length}
+use Rattle.std.proofs.Common.{arith}
 use Rattle.cl_explore.proofs.Lists.{at_inside}
 use Rattle.rvmc_explore.proofs.Listed.{none_left, one_more}
 use Rattle.rvmc_explore.proofs.telling.put_told.Goals as goal

@@ -1,5 +1,5 @@
 use Rattle.std.proofs.Common.{◌∙◌, ap}
-use Rattle.rv_image.specs.declared.images.ImageParts.{ImageParts}
+use Rattle.rv_image_types.specs.declared.images.ImageParts.{ImageParts}
 use Rattle.rvmc_gdb.specs.Shown.{line_at}
 use Rattle.rvmc_gdb.proofs.shown.hart_line.Goals as goal
 

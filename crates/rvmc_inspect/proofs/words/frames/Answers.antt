@@ -1,5 +1,5 @@
 use Rattle.std.proofs.Common.{◌∙◌, ap, refl}
-use Rattle.rv_image.specs.declared.images.ImageParts.{ImageParts}
+use Rattle.rv_image_types.specs.declared.images.ImageParts.{ImageParts}
 use Rattle.cl_state.specs.Room.{rank_of}
 use Rattle.rvmc_inspect.specs.WordTexts.{frames_text}
 use Rattle.rvmc_inspect.proofs.words.frames.Goals as goal

@@ -1,6 +1,6 @@
 use Rattle.std.proofs.Common.{arith, rules, ◌≡◌, subst, length, ℕ}
 use Rattle.std.specs.Prelude.{Option, None}
-use Rattle.rvmc_tally.specs.Hottest.{IsNextBelow}
+use Rattle.rvmc_stats.specs.Hottest.{IsNextBelow}
 use Rattle.rvmc_list.proofs.Hottest.{placed_all, placed_more, placed_ten}
 use Rattle.rvmc_list.proofs.places.put_place_lines.Goals as goal
 

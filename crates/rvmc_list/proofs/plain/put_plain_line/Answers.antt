@@ -1,6 +1,6 @@
 use Rattle.std.proofs.Common.{◌++◌, ◌∷◌, [], ◌∙◌, List, ℕ, ap}
 use Rattle.cl_state.specs.Room.{rank_of}
-use Rattle.rvmc_list.specs.Lines.{sight_of, sight_text}
+use Rattle.rvmc_sights.specs.Lines.{sight_of, sight_text}
 use Rattle.rvmc_list.specs.Phases.{phase_text}
 use Rattle.rvmc_list.specs.Pieces.{closing}
 use Rattle.rvmc_list.proofs.Plains.{line_is}

@@ -1,5 +1,5 @@
 use Rattle.std.proofs.Common.{arith}
-use Rattle.rvmc_inspect.specs.WordTexts.{padded_hex}
+use Rattle.rvmc_picture.specs.Below.{padded_hex}
 use Rattle.rvmc_draw.proofs.Taken.{taken_all, taken_more}
 use Rattle.rvmc_page.proofs.safe.put_bytes.Goals as goal
 

@@ -1,6 +1,6 @@
 use Rattle.std.proofs.Common.{◌≡◌, ◌++◌, take}
 use Rattle.std.specs.List.{flat_map}
-use Rattle.rvmc_inspect.specs.WordTexts.{padded_hex}
+use Rattle.rvmc_picture.specs.Below.{padded_hex}
 use Rattle.rvmc_page.proofs.safe.put_bytes.Given as goal
 
 -- those so far

@@ -1,6 +1,6 @@
 use Rattle.std.proofs.Common.{◌≡◌, length}
 use Rattle.std.specs.List.{list_all}
-use Rattle.rv_image.specs.Names.{is_digit}
+use Rattle.rv_image_types.specs.Names.{is_digit}
 use Rattle.rvmc_places.proofs.names.are_digits.Given as goal
 
 -- the bytes before these passed

@@ -1,6 +1,6 @@
 use Rattle.std.specs.Prelude.{◌≡◌, Result, Ok, Err, IfOk, Some, length}
 use Rattle.std.proofs.Common.{sym, ap, ◌∙◌}
-use Rattle.cl_front.specs.End.{record_end}
+use Rattle.cl_text.specs.Front.End.{record_end}
 use Rattle.test_cluster.proofs.ends.a_record_ends_with_its_last_byte.Goals as goal
 
 of_ok : {T E : Type 0} (r : Result T E) (P Q : T → Type 0) → ((x : T) → P x → Q x) → IfOk r P → IfOk r Q

@@ -3,7 +3,7 @@ use Rattle.std.specs.Prelude.{slice_get, Some}
 use Rattle.std.proofs.lemmas.Option.{same_Some, slice_get_read, slice_get_within}
 use borrow.Author.Count.{below_more}
 use lib.Pointwise.{pointwise_decides}
-use Rattle.rv_image.specs.declared.images.Symbol.{Symbol}
+use Rattle.rv_image_types.specs.declared.images.Symbol.{Symbol}
 use Rattle.cl_debug.specs.Debugging.{Debugging}
 use Rattle.cl_debug.proofs.debugging.Debugger.symbol.Goals as goal
 

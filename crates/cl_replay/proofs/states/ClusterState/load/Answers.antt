@@ -1,5 +1,5 @@
 use Rattle.std.proofs.Common.{◌*◌, refl, sym, ap, ◌∙◌, subst, length, map, replicate}
-use Rattle.rv_image.specs.declared.images.ImageParts.{ImageParts}
+use Rattle.rv_image_types.specs.declared.images.ImageParts.{ImageParts}
 use Rattle.cl_state.specs.Rank.{below, loaded}
 use Rattle.cl_record.specs.Keys.{ShowsAll}
 use Rattle.cl_machine.specs.Boxes.{empty_box}

@@ -1,5 +1,5 @@
 use Rattle.std.proofs.Common.{◌≡◌, ◌<◌, ◌≤◌, ◌+◌, ◌*◌, ℕ, List, false, cond, length, slice_index, vec_len}
-use Rattle.rv_image.specs.declared.images.ImageParts.{ImageParts}
+use Rattle.rv_image_types.specs.declared.images.ImageParts.{ImageParts}
 use Rattle.cl_record.specs.declared.plans.Plan.{Plan}
 use Rattle.cl_run.specs.Driver.{AreJoined, AreSeated, IsStoppedAt, left, stations}
 use Rattle.cl_run.specs.UnderWay.{IsUnderWay}

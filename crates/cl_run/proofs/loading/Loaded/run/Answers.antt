@@ -1,6 +1,6 @@
 use Rattle.std.proofs.Common.{◌<◌, ◌∙◌, All, List, length, subst, sym}
-use Rattle.rv_image.specs.Image.{IsImage}
-use Rattle.rv_image.specs.declared.images.Link.{Link}
+use Rattle.rv_image_types.specs.Image.{IsImage}
+use Rattle.rv_image_types.specs.declared.images.Link.{Link}
 use Rattle.cl_arrival_laws.proofs.Runs.{arrived_run}
 use Rattle.cl_record.specs.Leaving.{HaveRoom}
 use Rattle.cl_record.specs.Records.{IsMergedRun}

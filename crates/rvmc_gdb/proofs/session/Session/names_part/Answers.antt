@@ -1,5 +1,5 @@
 use Rattle.std.proofs.Common.{rules, ◌≡◌}
-use Rattle.rvmc_replies.specs.Parts.{part_of}
+use Rattle.rvmc_protocol.specs.Replies.Parts.{part_of}
 use Rattle.rvmc_gdb.proofs.session.Session.names_part.Goals as goal
 
 pub returns : goal.returns

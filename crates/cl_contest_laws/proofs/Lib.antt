@@ -1,0 +1,12 @@
+pub mod Good
+pub mod Rest
+pub mod Kept
+pub mod Walks
+pub mod Ends
+pub mod Lists
+pub mod Companies
+pub mod Contest
+pub mod Asleep
+pub mod Unending
+pub mod Starts
+pub mod Below

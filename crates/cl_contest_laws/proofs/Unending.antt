@@ -1,0 +1,128 @@
+-- Where runs can still end, and where none does.
+use Rattle.std.proofs.Common.{◌≡◌, ℕ, sym, subst, List, ◌++◌, Bool, Some}
+use Rattle.std.specs.Prelude.{IsTrue}
+use Rattle.std.specs.List.{slice_get}
+use Rattle.cl_machine.specs.declared.steps.Step.{Step}
+use Rattle.cl_machine.specs.Cluster.{Cluster, IsRun}
+use Rattle.cl_order_laws.specs.Closed.{FollowPlans, IsEnd, Node, Plans, Turns, had_after}
+use Rattle.cl_order_laws.specs.Sure.{GoesOn as GoesOnBy}
+use Rattle.cl_order_laws.proofs.Covered.{node_of}
+use Rattle.cl_outcome_laws.specs.Graphs.{Edges, IsTrap}
+use Rattle.cl_outcome_laws.specs.Unending.{MayEnd, NeverEnds}
+use Rattle.cl_outcome_laws.proofs.Paths.{may_after, may_follow, mirror}
+use Rattle.cl_schedule_laws.proofs.Walks.{along}
+use Rattle.cl_reduction_laws.specs.Clusters.{Search, State, cluster_machine}
+use Rattle.cl_reduction_laws.specs.Settled.{IsSettled, Settles}
+use Rattle.cl_reduction_laws.proofs.Clusters.{cluster_machine_law}
+use Rattle.cl_contest_laws.specs.Laws.{NeverEndsLaw}
+use Rattle.cl_contest_laws.specs.Lists.{IsClosedByContest, IsContestGraph, IsOneOf, StartsWell}
+use Rattle.cl_contest_laws.proofs.Asleep.{asleep}
+use Rattle.cl_contest_laws.proofs.Contest.{came, finds, node_alike}
+use Rattle.cl_contest_laws.proofs.Ends.{rest_too}
+use Rattle.cl_contest_laws.proofs.Kept.{AreClosed}
+use Rattle.cl_contest_laws.proofs.Lists.{IsInside, all_rest, graph_closed, inside_closed, is_end, list_closed, planned_of}
+use Rattle.cl_contest_laws.proofs.Rest.{alike_back}
+use Rattle.cl_contest_laws.proofs.Walks.{IsPlanned, arrives, by_plans, walked, walks_on}
+
+-- a node settles, by itself
+node_settles : (search : Search) (Is : Cluster → Type 0) → AreClosed search Is → (node : State search) → Is node.cluster
+    → Settles search Is 0 node.cluster
+node_settles search Is nodes node is =
+    (λ r. (nodes.fit node.cluster is).within r, (node.cluster, is, (cluster_machine_law search).itself node))
+
+-- ---- the same cluster
+
+end_at : (plans : Plans) (c d : Cluster) → c ≡ d → IsEnd plans d → IsEnd plans c
+end_at plans c d same is = subst (IsEnd plans) (sym same) is
+
+starts_at : (plans : Plans) (rs : List ℕ) (had : Turns) (c d : Cluster) (last : Node) → c ≡ d
+    → GoesOnBy plans rs (node_of c had) last
+    → GoesOnBy plans rs (node_of d had) last
+starts_at plans rs had c d last same walk = subst (λ k. GoesOnBy plans rs (node_of k had) last) same walk
+
+-- ---- a run from where a search began
+
+module _ (search : Search) (plans : Plans) (nodes : List Node) (edges : Edges) (start : Node)
+    (well : StartsWell search plans start.cluster) (settled : IsSettled search (IsOneOf nodes) start.cluster)
+    (graph : IsContestGraph search plans nodes edges) where
+  abbrev planned : IsPlanned search plans
+  planned = planned_of search plans start.cluster well.single
+
+  abbrev closed : IsClosedByContest search plans nodes
+  closed = graph_closed search plans planned nodes edges graph
+
+  -- ---- from inside a trap
+
+  module _ (inside : ℕ → Bool) (trap : IsTrap plans nodes edges inside) (i : ℕ) (node : Node) (is : IsTrue (inside i))
+      (there : slice_get nodes i ≡ Some node) (steps : List Step) (run : IsRun start.cluster steps node.cluster)
+      (follow : FollowPlans plans start.had steps) where
+    abbrev Is : Cluster → Type 0
+    Is = IsInside search plans planned nodes edges graph inside trap.stays
+
+    abbrev all : AreClosed search Is
+    all = inside_closed search plans planned nodes edges graph inside trap.stays
+
+    never : NeverEnds plans node
+    never last after end =
+        let c = came search plans nodes start well settled closed steps node.cluster run follow in
+        let at : Is c.last.cluster = (i, node, there, sym c.is, is) in
+        let settles = node_settles search Is all c.last at in
+        let w = walked search plans planned Is all 0 c.last settles after.0 node last c.is after.1 in
+        let f = arrives search plans planned Is all 0 c.last settles after.0 last.cluster w in
+        let rest = all_rest search plans planned w.last.cluster (end_at plans w.last.cluster last.cluster w.is end) in
+        let k = node_alike search Is w.last f rest in
+        let to : Is f.node.cluster = f.is in
+        let rests = rest_too search (well.single).harts w.last f.node k (all.fit f.node.cluster to) rest in
+        trap.no_end to.0 to.1 to.4 to.2
+        (subst (IsEnd plans) (sym to.3) (is_end search plans planned f.node.cluster rests))
+
+  -- ---- where each node may end
+
+  module _ (each : (i : ℕ) (node : Node) → slice_get nodes i ≡ Some node → MayEnd plans node)
+      (steps : List Step) (end : Cluster) (run : IsRun start.cluster steps end)
+      (follow : FollowPlans plans start.had steps) where
+    abbrev every : AreClosed search (IsOneOf nodes)
+    every = list_closed search plans planned nodes closed
+
+    abbrev had : Turns
+    had = had_after start.had steps
+
+    may : MayEnd plans (node_of end had)
+    may =
+        let c = came search plans nodes start well settled closed steps end run follow in
+        let f = finds search plans nodes start well settled closed steps end run follow in
+        let at : IsOneOf nodes f.node.cluster = f.is in
+        let m = each at.0 at.1 at.2 in
+        let rs = (m.1).0 in
+        let settles = node_settles search (IsOneOf nodes) every f.node at in
+        let w = walked search plans planned (IsOneOf nodes) every 0 f.node settles rs at.1 m.0 (sym at.3) (m.1).1 in
+        let there = arrives search plans planned (IsOneOf nodes) every 0 f.node settles rs (m.0).cluster w in
+        let rest = all_rest search plans planned w.last.cluster
+        (end_at plans w.last.cluster (m.0).cluster w.is m.2) in
+        let t = along (cluster_machine search) (cluster_machine_law search) rs f.node f.there w.last
+        (alike_back search f.there f.node f.alike) w.walk w.inside in
+        let s = asleep search w.last there.within rest t.last t.alike in
+        let ranks = f.more ++ (rs ++ s.0) in
+        let whole = walks_on search plans planned f.more (rs ++ s.0) c.last f.there s.1 f.walk
+        (walks_on search plans planned rs s.0 f.there t.last s.1 t.walk s.2) in
+        let g = by_plans search plans planned ranks c.last s.1 had whole in (
+          g.0,
+          (ranks, starts_at plans ranks had c.last.cluster end g.0 c.is g.1),
+          end_at plans (g.0).cluster (s.1).cluster g.2 (is_end search plans planned (s.1).cluster s.3),
+        )
+
+path : (search : Search) (plans : Plans) (nodes : List Node) (edges : Edges) → IsContestGraph search plans nodes edges
+    → (i j : ℕ) (from to : Node) → IsTrue (edges i j) → slice_get nodes i ≡ Some from → slice_get nodes j ≡ Some to
+    → MayEnd plans to → MayEnd plans from
+path search plans nodes edges graph i j from to edge here there leads =
+    let l = graph.leads i j from to edge here there in
+    may_after plans from l.0 l.1 (may_follow plans l.0 to (mirror plans l.0 to l.2) leads)
+
+pub never_ends_law : NeverEndsLaw
+never_ends_law = record {
+  never = λ search plans nodes edges inside start well settled graph trap i node is there steps run follow.
+      never search plans nodes edges start well settled graph inside trap i node is there steps run follow;
+  path = path;
+  may = λ search plans nodes edges start well settled graph each steps end run follow.
+      may search plans nodes edges start well settled graph each steps end run follow;
+}

@@ -1,0 +1,6 @@
+pub mod Passing
+pub mod Fits
+pub mod Settling
+pub mod Leading
+pub mod Others
+pub mod Below

@@ -1,0 +1,220 @@
+-- Which kept patterns a send or a receive may pass.
+use Rattle.std.specs.Prelude.{ℕ, zero, suc, ◌+◌, ◌<◌, ◌≤◌, ◌≡◌, ◌≢◌, ◌==◌, ◌&&◌, Bool, true, false, cond, not, List, [], ◌∷◌, length, get_or, Option, Some, None}
+use Rattle.std.specs.List.{list_any, slice_get}
+use Rattle.std.proofs.Common.{refl, sym, ap, ◌∙◌, subst, arith, inl, inr}
+use Rattle.std.proofs.lemmas.Bool.{and_parts, cases_eq, eq-eqb, eqb-true, not-true, or_cases}
+use Rattle.std.proofs.lemmas.Option.{same_Some, slice_get_within}
+use Rattle.mp_types.specs.declared.requests.Request.{Request}
+use Rattle.mp_types.specs.declared.requests.Request.TheVariants as request
+use Rattle.mp_source_laws.specs.Alike.{Wild}
+use Rattle.mp_clash_laws.specs.Exchanges.{NoRace, NoSync}
+use Rattle.cl_reduction_laws.specs.Patterns.{IsAllowed, MayPass, Pattern as Asked, own, poll, receive, send, unlisted, wait}
+use Rattle.cl_contests.specs.declared.patterns.AskedBy.{AskedBy}
+use Rattle.cl_contests.specs.declared.patterns.Pattern.{Pattern}
+use Rattle.cl_contests.specs.declared.patterns.Pattern.TheVariants as pattern
+use Rattle.cl_contests.specs.Kept.{is_pattern, is_same_bool, patterns_of, wild_of}
+use Rattle.cl_contests.specs.Passing.{Keeps, MayPassKept, has_pattern, is_wanted}
+
+pub is_other : (a b : ℕ) → not (a == b) ≡ true → a ≢ b
+is_other a b apart same =
+    let is = eq-eqb a b same in
+    let no : false ≡ true = sym (not-true (a == b) apart) ∙ is in cc
+
+-- ---- no race, and nothing told to a synchronous send
+
+module _ (wild : Wild) (dest comm tag : ℕ) (mode : Bool) (bytes : List ℕ) (to other : ℕ) where
+  pub apart_ranks : dest ≢ to → (sync : Bool)
+      → NoRace wild (request.Send mode comm dest tag bytes) (request.Send sync other to 0 [])
+  apart_ranks apart sync same = absurd (apart same)
+
+  pub apart_comms : comm ≢ other → (sync : Bool)
+      → NoRace wild (request.Send mode comm dest tag bytes) (request.Send sync other to 0 [])
+  apart_comms apart sync same its = absurd (apart its)
+
+  pub all_named : wild to other ≡ false → (sync : Bool)
+      → NoRace wild (request.Send mode comm dest tag bytes) (request.Send sync other to 0 [])
+  all_named none sync same its asks =
+      let is : wild dest comm ≡ false = ap (λ k. wild k comm) same ∙ (ap (wild to) its ∙ none) in
+      let no : true ≡ false = sym asks ∙ is in cc
+
+pub send_no_sync : (r s comm dest tag : ℕ) (mode sync : Bool) (bytes : List ℕ) (to other : ℕ)
+    → NoSync r (request.Send mode comm dest tag bytes) s (request.Send sync other to 0 [])
+send_no_sync r s comm dest tag true sync bytes to other = tt
+send_no_sync r s comm dest tag false sync bytes to other = tt
+
+pub receive_no_sync : (r s comm to other : ℕ) (now : Bool) (source tag : Option ℕ) (sync : Bool) → to ≢ r
+    → NoSync r (request.Recv now comm source tag) s (request.Send sync other to 0 [])
+receive_no_sync r s comm to other now source tag true apart = apart
+receive_no_sync r s comm to other now source tag false apart = tt
+
+pub receive_standard : (r s comm to other : ℕ) (now : Bool) (source tag : Option ℕ) (sync : Bool) → sync ≡ false
+    → NoSync r (request.Recv now comm source tag) s (request.Send sync other to 0 [])
+receive_standard r s comm to other now source tag true is = absurd (cc)
+receive_standard r s comm to other now source tag false is = tt
+
+pub sent_no_sync : (r s comm dest tag : ℕ) (mode : Bool) (bytes : List ℕ) → dest ≢ s
+    → NoSync r (request.Send mode comm dest tag bytes) s (request.Recv false 0 None None)
+sent_no_sync r s comm dest tag true bytes apart = apart
+sent_no_sync r s comm dest tag false bytes apart = tt
+
+pub sent_standard : (r s comm dest tag : ℕ) (mode : Bool) (bytes : List ℕ) → mode ≡ false
+    → NoSync r (request.Send mode comm dest tag bytes) s (request.Recv false 0 None None)
+sent_standard r s comm dest tag true bytes is = absurd (cc)
+sent_standard r s comm dest tag false bytes is = tt
+
+-- ---- one kept pattern
+
+same_mode : (a b : Bool) → is_same_bool a b ≡ true → a ≡ b
+same_mode true true is = refl
+same_mode true false is = absurd (cc)
+same_mode false true is = absurd (cc)
+same_mode false false is = refl
+
+module _ (kept : List AskedBy) (r : ℕ) (q : Request) (a : AskedBy) where
+  by : (k : Pattern) → a.pattern ≡ k
+      → ((p : Asked) → is_pattern k p ≡ true → MayPass (wild_of kept) r q a.rank p) → MayPassKept kept r q a
+  by k is each p same = each p (sym (ap (λ x. is_pattern x p) is) ∙ same)
+
+  pub passes_send : (sync : Bool) (dest comm : ℕ) → a.pattern ≡ pattern.Send sync dest comm
+      → ((its : Bool) → NoRace (wild_of kept) q (request.Send its comm dest 0 []))
+      → ((s other : ℕ) → NoSync r q s (request.Send sync other dest 0 [])) → MayPassKept kept r q a
+  passes_send sync dest comm is race told = by (pattern.Send sync dest comm) is each
+    where
+      each : (p : Asked) → is_pattern (pattern.Send sync dest comm) p ≡ true → MayPass (wild_of kept) r q a.rank p
+      each (send its to other) same =
+          let parts = and_parts (is_same_bool sync its) ((dest == to) && (comm == other)) same in
+          let places = and_parts (dest == to) (comm == other) parts.1 in
+          let mode = same_mode sync its parts.0 in
+          let there = eqb-true dest to places.0 in
+          let within = eqb-true comm other places.1 in (
+            subst (λ k. NoRace (wild_of kept) q (request.Send its other k 0 [])) there
+                (subst (λ k. NoRace (wild_of kept) q (request.Send its k dest 0 [])) within (race its)),
+            subst (λ k. NoSync r q a.rank (request.Send its other k 0 [])) there
+                (subst (λ k. NoSync r q a.rank (request.Send k other dest 0 [])) mode (told a.rank other)),
+          )
+      each own same = absurd (cc)
+      each receive same = absurd (cc)
+      each wait same = absurd (cc)
+      each poll same = absurd (cc)
+      each unlisted same = absurd (cc)
+
+  pub passes_receive : a.pattern ≡ pattern.Receive → NoSync r q a.rank (request.Recv false 0 None None)
+      → MayPassKept kept r q a
+  passes_receive is told = by pattern.Receive is each
+    where
+      each : (p : Asked) → is_pattern pattern.Receive p ≡ true → MayPass (wild_of kept) r q a.rank p
+      each receive same = told
+      each own same = absurd (cc)
+      each (send its to other) same = absurd (cc)
+      each wait same = absurd (cc)
+      each poll same = absurd (cc)
+      each unlisted same = absurd (cc)
+
+  pub passes_source : (comm : ℕ) → a.pattern ≡ pattern.AnySource comm → MayPassKept kept r q a
+  passes_source comm is = by (pattern.AnySource comm) is (λ p same. absurd (cc))
+
+-- ---- all of them
+
+of_any : (f : AskedBy → Bool) (xs : List AskedBy) → list_any f xs ≡ true
+    → (i : ℕ) × (a : AskedBy) × (slice_get xs i ≡ Some a) × (f a ≡ true)
+of_any f [] is = absurd (cc)
+of_any f (x ∷ xs) is = elim (or_cases (f x) (list_any f xs) is) [
+  | inl here ↦ (0, x, refl, here)
+  | inr later ↦ let v = of_any f xs later in (suc v.0, v.1, v.2, v.3)
+]
+
+-- the patterns of other ranks before this place
+abbrev pub MayPassBelow : List AskedBy → ℕ → Request → ℕ → Type 0
+MayPassBelow kept r q n = (i : ℕ) → i < n → (a : AskedBy) → slice_get kept i ≡ Some a → a.rank ≢ r → MayPassKept kept r q a
+
+module _ (kept : List AskedBy) (r : ℕ) (q : Request) (n : ℕ) (before : MayPassBelow kept r q n) where
+  pub passes_more : (a : AskedBy) → slice_get kept n ≡ Some a → (a.rank ≢ r → MayPassKept kept r q a)
+      → MayPassBelow kept r q (n + 1)
+  passes_more a at here i low x there other = elim (cases_eq n i) [
+    | inl same ↦
+        let is : a ≡ x = same_Some a x (sym at ∙ subst (λ k. slice_get kept k ≡ Some x) (sym same) there) in
+        subst (λ y. MayPassKept kept r q y) is (here (λ e. other (sym (ap (λ (y : AskedBy). y.rank) is) ∙ e)))
+    | inr apart ↦ before i (omega (arith, low, apart)) x there other
+  ]
+
+  pub passes_all : length kept ≤ n → (s : ℕ) (p : Asked) → s ≢ r → IsAllowed (patterns_of kept) s p
+      → MayPass (wild_of kept) r q s p
+  passes_all all s p other allowed = of p allowed
+    where
+      found : (x : Asked) → patterns_of kept s x ≡ true → MayPass (wild_of kept) r q s x
+      found x has =
+          let v = of_any (λ (a : AskedBy). (a.rank == s) && is_pattern a.pattern x) kept has in
+          let parts = and_parts ((v.1).rank == s) (is_pattern (v.1).pattern x) v.3 in
+          let whose = eqb-true (v.1).rank s parts.0 in
+          let inside = slice_get_within kept v.0 v.1 v.2 in
+          subst (λ k. MayPass (wild_of kept) r q k x) whose
+          (before v.0 (omega (arith, inside, all)) v.1 v.2 (λ e. other (sym whose ∙ e)) x parts.1)
+
+      of : (x : Asked) → IsAllowed (patterns_of kept) s x → MayPass (wild_of kept) r q s x
+      of own allowed = tt
+      of wait allowed = tt
+      of unlisted allowed = absurd allowed
+      of (send sync dest comm) allowed = found (send sync dest comm) allowed
+      of receive allowed = found receive allowed
+      of poll allowed = found poll allowed
+
+-- ---- patterns that are added
+
+pub poll_kept : (old new : List AskedBy) → Keeps old new → (r : ℕ) (waits : Bool)
+    → IsAllowed (patterns_of old) r (cond waits wait poll) → IsAllowed (patterns_of new) r (cond waits wait poll)
+poll_kept old new keeps r true allowed = tt
+poll_kept old new keeps r false allowed = keeps r pattern.Poll allowed
+
+-- each of these before this place is among those
+abbrev pub HasBelow : List AskedBy → List AskedBy → ℕ → Type 0
+HasBelow others new n =
+    (i : ℕ) → i < n → (a : AskedBy) → slice_get others i ≡ Some a → has_pattern new a.rank a.pattern ≡ true
+
+wanted_is : (wanted k : Pattern) → is_wanted wanted k ≡ true → k ≡ wanted
+wanted_is (pattern.Send sync dest comm) (pattern.Send its to other) is =
+    let parts = and_parts (is_same_bool its sync) ((to == dest) && (other == comm)) is in
+    let places = and_parts (to == dest) (other == comm) parts.1 in
+    let mode = same_mode its sync parts.0 in
+    let there = eqb-true to dest places.0 in
+    let within = eqb-true other comm places.1 in λ i. pattern.Send (mode i) (there i) (within i)
+wanted_is (pattern.Send sync dest comm) pattern.Receive is = absurd (cc)
+wanted_is (pattern.Send sync dest comm) pattern.Poll is = absurd (cc)
+wanted_is (pattern.Send sync dest comm) (pattern.AnySource other) is = absurd (cc)
+wanted_is pattern.Receive pattern.Receive is = refl
+wanted_is pattern.Receive (pattern.Send its to other) is = absurd (cc)
+wanted_is pattern.Receive pattern.Poll is = absurd (cc)
+wanted_is pattern.Receive (pattern.AnySource other) is = absurd (cc)
+wanted_is pattern.Poll pattern.Poll is = refl
+wanted_is pattern.Poll (pattern.Send its to other) is = absurd (cc)
+wanted_is pattern.Poll pattern.Receive is = absurd (cc)
+wanted_is pattern.Poll (pattern.AnySource other) is = absurd (cc)
+wanted_is (pattern.AnySource comm) (pattern.AnySource other) is = ap (λ c. pattern.AnySource c) (eqb-true other comm is)
+wanted_is (pattern.AnySource comm) (pattern.Send its to other) is = absurd (cc)
+wanted_is (pattern.AnySource comm) pattern.Receive is = absurd (cc)
+wanted_is (pattern.AnySource comm) pattern.Poll is = absurd (cc)
+
+here : (xs : List AskedBy) (i : ℕ) (none : AskedBy) → i < length xs → slice_get xs i ≡ Some (get_or xs i none)
+here [] i none low = absurd (omega (arith, low))
+here (x ∷ xs) zero none low = refl
+here (x ∷ xs) (suc i) none low = here xs i none (omega (arith, low))
+
+module _ (others new : List AskedBy) (n : ℕ) (before : HasBelow others new n) where
+  pub has_more : (none : AskedBy) (xs more : List AskedBy) → xs ≡ others → n < length others → Keeps new more
+      → has_pattern more (get_or xs n none).rank (get_or xs n none).pattern ≡ true → HasBelow others more (n + 1)
+  has_more none xs more are inside keeps has i low x there = elim (cases_eq n i) [
+    | inl same ↦
+        let a : AskedBy = get_or xs n none in
+        let at : slice_get others n ≡ Some a = here others n none inside ∙ ap (λ ys. Some (get_or ys n none)) (sym are) in
+        let is : a ≡ x = same_Some a x (sym at ∙ subst (λ k. slice_get others k ≡ Some x) (sym same) there) in
+        subst (λ (y : AskedBy). has_pattern more y.rank y.pattern ≡ true) is has
+    | inr apart ↦ keeps x.rank x.pattern (before i (omega (arith, low, apart)) x there)
+  ]
+
+  pub has_all : length others ≤ n → Keeps others new
+  has_all all r wanted has =
+      let v = of_any (λ (a : AskedBy). (a.rank == r) && is_wanted wanted a.pattern) others has in
+      let parts = and_parts ((v.1).rank == r) (is_wanted wanted (v.1).pattern) v.3 in
+      let inside = slice_get_within others v.0 v.1 v.2 in
+      subst (λ k. has_pattern new k wanted ≡ true) (eqb-true (v.1).rank r parts.0)
+      (subst (λ k. has_pattern new (v.1).rank k ≡ true) (wanted_is wanted (v.1).pattern parts.1)
+      (before v.0 (omega (arith, inside, all)) v.1 v.2))

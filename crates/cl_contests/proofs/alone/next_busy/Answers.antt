@@ -1,0 +1,29 @@
+use Rattle.std.proofs.Common.{◌≡◌, Some, ap, arith, slice_get, subst, sym, ◌+◌, ◌∙◌}
+use Rattle.std.proofs.lemmas.Option.{slice_get_read}
+use Rattle.cl_machine.specs.declared.steps.Step.{Step}
+use Rattle.cl_state.specs.Asked.{asked}
+use Rattle.cl_state.specs.Room.{rank_of}
+use Rattle.cl_trace.specs.Traces.{kind_of_bare}
+use Rattle.cl_contests.specs.Turns.{IsBusyKind}
+use Rattle.cl_contests.proofs.alone.next_busy.Goals as goal
+
+pub returns : goal.returns
+returns c =
+    let own = c.index-own.result.now in
+    let ranks = c.args.standing.now.cluster.ranks in
+    let here = slice_get_read ranks.items c.len.result c.from-place.result own (c.len.ensures ∙ ranks.ok.0)
+    c.if-place-len.false c.index-own.ensures in
+    let rank : (c.bare.result).rank ≡ c.args.rank = ap (λ (e : Step). e.rank) c.bare.ensures in
+    let hart : (c.bare.result).hart ≡ 0 = ap (λ (e : Step). e.hart) c.bare.ensures in
+    let stamp : (c.bare.result).stamp ≡ own.clock + 1 = ap (λ (e : Step). e.stamp) c.bare.ensures in
+    let kind : (c.bare.result).kind ≡ kind_of_bare c.in-Some.kind = ap (λ (e : Step). e.kind) c.bare.ensures in
+    record {
+      own = own;
+      there = subst (λ r. slice_get ranks.items r ≡ Some own) (c.from-place.ensures ∙ sym rank) here;
+      hart_is = hart;
+      inside = omega (arith, c.len-2.ensures, own.harts.ok.0, c.if-len-eq0.false);
+      stamp_is = stamp;
+      low = omega (arith, stamp, c.if-own-ge-CLOCK_MAX.false);
+      busy = subst (λ k. IsBusyKind (asked (rank_of own) 0) k) (sym kind)
+          (subst (λ a. IsBusyKind a (kind_of_bare c.in-Some.kind)) c.in_ok-ask.ensures c.in-Some.ensures);
+    }

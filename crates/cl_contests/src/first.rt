@@ -1,0 +1,241 @@
+//! Turns of ranks that go first, one after another.
+
+ghost use Rattle.std.specs.Prelude.{◌≡◌, IfOk, true};
+ghost use Rattle.cl_contests.specs.Going.{GoesFirstOn};
+ghost use Rattle.cl_contests.specs.Kept.{search_of};
+ghost use Rattle.cl_contests.specs.Lone.{IsNextTurn};
+ghost use Rattle.cl_contests.specs.Turns.{AsksWithin, GoesWithin, IsFirstCall, IsFirstNext, TellsWithin};
+
+use crate::alone::all_alone;
+use crate::asking::{is_look, is_made_anew, is_ready_turn};
+use crate::lone::next_lone;
+use crate::patterns::Patterns;
+use crate::polls::poll_all;
+use cl_machine::{KindRef, Step};
+use cl_moves::{MoveFault, Standing, turns_of};
+use cl_state::{Ask, RankState};
+use mp_types::{Reply, Request};
+use std::alloc::Global;
+
+/// How many looks at messages that are there are taken in a row: a rank that looks for ever changes nothing.
+const LOOKS: u64 = 256;
+
+/// How it went.
+#[derive(Clone, Copy, Drop)]
+pub struct Went {
+    /// Whether each rank asked within the patterns all the way.
+    pub within: bool,
+    /// The first rank that takes more turns by itself than it was let, if there is one.
+    pub long: Option<u8>,
+}
+
+/// Whether the rank asks within the patterns. What it asks beside them is added to `missing`.
+fn asks_within(
+    own: &RankState,
+    rank: u8,
+    patterns: &Patterns,
+    missing: &mut Patterns,
+) -> Result<bool, MoveFault>
+    ensures { IfOk result (λ within. within ≡ true → AsksWithin (search_of patterns.now.kept.items) rank own.now) }
+{
+    if own.harts.len() == 0 {
+        return Ok(false);
+    }
+    let doing = own.next(0);
+    let waits = is_made_anew(&doing);
+    let ask = own.ask_next(0, &doing)?;
+    if patterns.allow(rank, waits, &ask) {
+        return Ok(true);
+    }
+    missing.add(rank, waits, &ask)?;
+    Ok(false)
+}
+
+/// Whether each rank asks within the patterns. What they ask beside them is added to `missing`.
+fn all_within(
+    standing: &Standing,
+    patterns: &Patterns,
+    missing: &mut Patterns,
+) -> Result<bool, MoveFault>
+    ensures { IfOk result (TellsWithin (search_of patterns.now.kept.items) standing.now) }
+{
+    // an image has at most 8 ranks
+    let count = standing.cluster.ranks.len();
+    if count > 255 {
+        return Ok(false);
+    }
+    let mut within = true;
+    for rank in 0..count {
+        let own = &standing.cluster.ranks[rank];
+        if !asks_within(own, rank as u8, patterns, missing)? {
+            within = false;
+        }
+    }
+    Ok(within)
+}
+
+/// The turn of a rank that makes this call, if nobody contests it or it is for what is there.
+fn first_call(
+    alloc: Global,
+    standing: &Standing,
+    rank: u8,
+    request: &Request,
+    patterns: &Patterns,
+) -> Result<Option<Step>, MoveFault>
+    ensures { IfOk result (IsFirstCall (search_of patterns.now.kept.items) rank request.now) }
+{
+    let posts = patterns.may_pass(rank, request);
+    if !posts && (!is_look(request) || standing.cluster.hub.asks_in_vain(rank, request)) {
+        return Ok(None);
+    }
+    let mut turns = turns_of(alloc, &standing.cluster, rank, 0)?;
+    let Some(turn) = turns.pop() else {
+        return Ok(None);
+    };
+    if posts || is_ready_turn(&turn, request) {
+        Ok(Some(turn))
+    } else {
+        Ok(None)
+    }
+}
+
+/// The next turn of a rank, if it is such a call.
+fn first_of(
+    alloc: Global,
+    standing: &Standing,
+    rank: u8,
+    patterns: &Patterns,
+) -> Result<Option<Step>, MoveFault>
+    ensures { IfOk result (IsFirstNext (search_of patterns.now.kept.items) standing.now) }
+{
+    let place = usize::from(rank);
+    if place >= standing.cluster.ranks.len() {
+        return Ok(None);
+    }
+    let own = &standing.cluster.ranks[place];
+    if own.harts.len() == 0 {
+        return Ok(None);
+    }
+    match own.ask(0)? {
+        Ask::Hub(request) => first_call(alloc, standing, rank, &request, patterns),
+        _ => Ok(None),
+    }
+}
+
+/// The next turn of the first rank that makes such a call, if one does.
+fn next_first(
+    alloc: Global,
+    standing: &Standing,
+    patterns: &Patterns,
+) -> Result<Option<Step>, MoveFault>
+    ensures { IfOk result (IsFirstNext (search_of patterns.now.kept.items) standing.now) }
+{
+    for rank in 0..8u8 {
+        if let Some(turn) = first_of(alloc, standing, rank, patterns)? {
+            return Ok(Some(turn));
+        }
+    }
+    Ok(None)
+}
+
+/// The next turn of a rank that goes first, if one does.
+fn next_turn(
+    alloc: Global,
+    standing: &Standing,
+    patterns: &Patterns,
+) -> Result<Option<Step>, MoveFault>
+    ensures { IfOk result (IsNextTurn (search_of patterns.now.kept.items) standing.now) }
+{
+    if let Some(turn) = next_first(alloc, standing, patterns)? {
+        return Ok(Some(turn));
+    }
+    next_lone(alloc, standing)
+}
+
+/// Whether a rank would take more turns by itself, or there were more looks in a row than are allowed.
+fn is_enough(long: Option<u8>, looks: u64) -> bool {
+    long.is_some() || looks > LOOKS
+}
+
+/// How many looks at messages there were in a row, with this turn.
+fn looks_with(looks: u64, turn: &Step) -> u64 {
+    match turn.kind() {
+        KindRef::Hub(Reply::Seen(_)) => looks.saturating_add(1),
+        _ => 0,
+    }
+}
+
+/// Takes turns that need only their rank, of this rank or of each, and then one that goes first, over and over, at most so
+/// often, and no more looks in a row than are allowed. Behind the turn of a rank only this rank may take turns by itself.
+///
+/// Refusals: Clock, Memory. Then the standing may be anything.
+fn go_on(
+    alloc: Global,
+    standing: &mut Standing,
+    most: u64,
+    whose: Option<u8>,
+    patterns: &Patterns,
+    missing: &mut Patterns,
+) -> Result<Went, MoveFault>
+    ensures { IfOk result (λ went. GoesWithin (search_of patterns.now.kept.items) standing.old standing.new went.within) }
+{
+    let mut whose = whose;
+    let mut looks = 0;
+    for _round in 0..most {
+        let long = all_alone(standing, whose, most)?;
+        if !all_within(standing, patterns, missing)? {
+            return Ok(Went {
+                within: false,
+                long,
+            });
+        }
+        if is_enough(long, looks) {
+            return Ok(Went { within: true, long });
+        }
+        let Some(turn) = next_turn(alloc, standing, patterns)? else {
+            return Ok(Went { within: true, long });
+        };
+        whose = Some(turn.rank());
+        looks = looks_with(looks, &turn);
+        if !standing.take(turn)? {
+            return Ok(Went {
+                within: false,
+                long,
+            });
+        }
+    }
+    Ok(Went {
+        within: true,
+        long: whose,
+    })
+}
+
+/// Takes turns of ranks that go first, one after another, and then lets each rank that waits poll once: in that state all
+/// ranks are let go. A rank takes at most `most` turns by itself. What is asked beside the patterns is added to `missing`.
+/// `whose` is the rank that moved last, where no other rank can have turns left that need only itself.
+///
+/// Refusals: Clock, Memory. Then the standing may be anything.
+pub fn go_first(
+    alloc: Global,
+    standing: &mut Standing,
+    most: u64,
+    whose: Option<u8>,
+    patterns: &Patterns,
+    missing: &mut Patterns,
+) -> Result<Went, MoveFault>
+    ensures { IfOk result (GoesFirstOn (search_of patterns.now.kept.items) standing.old standing.new) }
+{
+    let went = go_on(alloc, standing, most, whose, patterns, missing)?;
+    if !went.within {
+        return Ok(went);
+    }
+    // a rank may ask something new since it was last looked at
+    let within = all_within(standing, patterns, missing)?;
+    if !within || !poll_all(alloc, standing)? {
+        return Ok(Went {
+            within: false,
+            long: went.long,
+        });
+    }
+    Ok(went)
+}

@@ -1,0 +1,327 @@
+//! What ranks ask for, without post numbers and without bytes.
+
+ghost use Rattle.std.specs.Prelude.{◌≡◌, ◌≢◌, ◌↔◌, Bool, IfOk, IsTrue, None, OnOk, true, [], cond, false, vec_len, ℕ};
+ghost use Rattle.mp_types.specs.declared.requests.Request.TheVariants as calls;
+ghost use Rattle.mp_source_laws.specs.Laws.{AsksFrom, AsksWithin};
+ghost use Rattle.mp_clash_laws.specs.Exchanges.{IsPosting, NoRace, NoSync};
+ghost use Rattle.cl_reduction_laws.specs.Below.{AskWithin};
+ghost use Rattle.cl_reduction_laws.specs.Patterns.{IsAllowed, MayPass, Pattern as Asked, pattern_of_ask, pattern_of_request};
+ghost use Rattle.cl_reduction_laws.specs.Patterns.{poll, wait};
+ghost use Rattle.cl_contests.specs.Kept.{is_same_bool, patterns_of, wild_of};
+ghost use Rattle.cl_contests.specs.Passing.{Keeps, MayPassKept, has_pattern, is_wanted as is_wanted_of};
+
+use cl_state::Ask;
+use mp_types::Request;
+use std::alloc::{AllocError, Global};
+
+/// What a rank asks for in a turn that another rank may contest.
+#[derive(Clone, Copy, Drop)]
+pub enum Pattern {
+    /// A send, synchronous or not, to this rank in this communicator.
+    Send { sync: bool, dest: u8, comm: u8 },
+    /// A receive.
+    Receive,
+    /// A poll: where nothing is there the rank goes on.
+    Poll,
+    /// A receive or a probe of any source in this communicator.
+    AnySource { comm: u8 },
+}
+
+/// A pattern, and the rank that asks so.
+#[derive(Clone, Copy, Drop)]
+pub struct AskedBy {
+    pub rank: u8,
+    pub pattern: Pattern,
+}
+
+fn is_same_mode(sync: bool, other: bool) -> bool
+    ensures { result ≡ is_same_bool sync other }
+{
+    if sync { other } else { !other }
+}
+
+/// Whether the kept pattern is the wanted one.
+fn is_wanted(wanted: Pattern, kept: Pattern) -> bool
+    ensures { result ≡ is_wanted_of wanted kept }
+{
+    match (wanted, kept) {
+        (
+            Pattern::Send {
+                sync: its,
+                dest: to,
+                comm: other,
+            },
+            Pattern::Send { sync, dest, comm },
+        ) => is_same_mode(sync, its) && (dest == to && comm == other),
+        (Pattern::Receive, Pattern::Receive) => true,
+        (Pattern::Poll, Pattern::Poll) => true,
+        (Pattern::AnySource { comm: other }, Pattern::AnySource { comm }) => comm == other,
+        _ => false,
+    }
+}
+
+/// Whether the call makes a post: a send or a receive.
+fn is_posting(request: &Request) -> bool
+    ensures { IsTrue result → IsPosting request.now }
+{
+    matches!(request, Request::Send { .. } | Request::Recv { .. })
+}
+
+/// Whether the rank's call isn't a receive that a synchronous send to this rank would be told of.
+fn receives_no_sync(rank: u8, request: &Request, sync: bool, dest: u8) -> bool
+    ensures { IsTrue result → (s comm : ℕ) → NoSync rank request.now s (calls.Send sync comm dest 0 []) }
+{
+    match request {
+        Request::Send { .. } => true,
+        Request::Recv { .. } => !sync || dest != rank,
+        _ => false,
+    }
+}
+
+/// Whether the call isn't a synchronous send that would be told of a receive of the other rank.
+fn sends_no_sync(request: &Request, other: u8) -> bool
+    ensures { IsTrue result → (r : ℕ) → NoSync r request.now other (calls.Recv false 0 None None) }
+{
+    match request {
+        Request::Send { sync, dest, .. } => !*sync || *dest != other,
+        Request::Recv { .. } => true,
+        _ => false,
+    }
+}
+
+/// The patterns of all ranks in a search.
+#[derive(Drop)]
+pub struct Patterns {
+    pub kept: Vec<AskedBy>,
+}
+
+impl Patterns {
+    /// No patterns.
+    pub fn new(alloc: Global) -> Patterns
+        ensures { result.kept.items ≡ [] }
+    {
+        Patterns {
+            kept: Vec::new(alloc),
+        }
+    }
+
+    /// Whether there are none.
+    pub fn is_empty(&self) -> bool
+        ensures { IsTrue result ↔ (vec_len self.now.kept ≡ 0) }
+    {
+        self.kept.is_empty()
+    }
+
+    /// Whether this is one of the rank's patterns.
+    fn has(&self, rank: u8, wanted: Pattern) -> bool
+        ensures { result ≡ has_pattern self.now.kept.items rank wanted }
+    {
+        self.kept.iter().any(|asked| asked.rank == rank && is_wanted(wanted, asked.pattern))
+    }
+
+    /// Whether the rank may ask for what may not be there yet.
+    fn allow_poll(&self, rank: u8, waits: bool) -> bool
+        ensures { IsTrue result → IsAllowed (patterns_of self.now.kept.items) rank (cond waits wait poll) }
+    {
+        waits || self.has(rank, Pattern::Poll)
+    }
+
+    /// Whether the rank may ask in the communicator for a message of this source, or of any.
+    fn allow_source(&self, rank: u8, comm: u8, source: Option<u8>) -> bool
+        ensures { IsTrue result → AsksFrom (wild_of self.now.kept.items) rank comm source }
+    {
+        match source {
+            Some(_) => true,
+            None => self.has(rank, Pattern::AnySource { comm }),
+        }
+    }
+
+    /// Whether this call of the hub is among the rank's patterns.
+    fn allow_request(&self, rank: u8, waits: bool, request: &Request) -> bool
+        ensures allowed { IsTrue result → IsAllowed (patterns_of self.now.kept.items) rank
+            (pattern_of_request waits request.now) }
+        ensures wild { IsTrue result → AsksWithin (wild_of self.now.kept.items) rank request.now }
+    {
+        match request {
+            Request::Send {
+                sync,
+                comm,
+                dest,
+                ..
+            } => {
+                let wanted = Pattern::Send {
+                    sync: *sync,
+                    dest: *dest,
+                    comm: *comm,
+                };
+                self.has(rank, wanted)
+            }
+            Request::Recv { comm, source, .. } => {
+                self.has(rank, Pattern::Receive) && self.allow_source(rank, *comm, *source)
+            }
+            Request::Probe { comm, source, .. } => {
+                self.allow_poll(rank, waits) && self.allow_source(rank, *comm, *source)
+            }
+            Request::Collect { .. } | Request::Finished { .. } | Request::All { .. } => {
+                self.allow_poll(rank, waits)
+            }
+            _ => false,
+        }
+    }
+
+    /// Whether what the rank asks is among its patterns. `waits` says that the turn is made anew where nothing is there.
+    pub(crate) fn allow(&self, rank: u8, waits: bool, ask: &Ask) -> bool
+        ensures allowed { IsTrue result → IsAllowed (patterns_of self.now.kept.items) rank (pattern_of_ask waits ask.now) }
+        ensures wild { IsTrue result → AskWithin (wild_of self.now.kept.items) rank ask.now }
+    {
+        match ask {
+            Ask::Plain | Ask::Local | Ask::Idle => true,
+            Ask::Hub(request) => self.allow_request(rank, waits, request),
+            _ => false,
+        }
+    }
+
+    /// Whether the call and a send to this rank in this communicator aren't told apart there: they go to two ranks or in two
+    /// communicators, or the rank names its sources there, or the call is a receive.
+    fn makes_no_race(&self, request: &Request, dest: u8, comm: u8) -> bool
+        ensures { IsTrue result → (sync : Bool)
+            → NoRace (wild_of self.now.kept.items) request.now (calls.Send sync comm dest 0 []) }
+    {
+        match request {
+            Request::Send {
+                dest: own,
+                comm: other,
+                ..
+            } => *own != dest || *other != comm || !self.has(dest, Pattern::AnySource { comm }),
+            Request::Recv { .. } => true,
+            _ => false,
+        }
+    }
+
+    /// Whether a send or a receive of the rank may go before what is asked by this pattern of another.
+    fn may_pass_kept(&self, rank: u8, request: &Request, other: &AskedBy) -> bool
+        ensures { IsTrue result → MayPassKept self.now.kept.items rank request.now other.now }
+    {
+        match other.pattern {
+            Pattern::Send { sync, dest, comm } => {
+                self.makes_no_race(request, dest, comm)
+                    && receives_no_sync(rank, request, sync, dest)
+            }
+            Pattern::Receive => sends_no_sync(request, other.rank),
+            Pattern::Poll => false,
+            Pattern::AnySource { .. } => true,
+        }
+    }
+
+    /// Whether a send or a receive of the rank may go before whatever the other ranks may ask.
+    pub(crate) fn may_pass(&self, rank: u8, request: &Request) -> bool
+        ensures post { IsTrue result → IsPosting request.now }
+        ensures pass { IsTrue result → (s : ℕ) (p : Asked) → s ≢ rank → IsAllowed (patterns_of self.now.kept.items) s p
+            → MayPass (wild_of self.now.kept.items) rank request.now s p }
+    {
+        if !is_posting(request) {
+            return false;
+        }
+        for other in self.kept.as_slice() {
+            if other.rank != rank && !self.may_pass_kept(rank, request, other) {
+                return false;
+            }
+        }
+        true
+    }
+
+    /// Keeps a pattern of the rank, unless it is there.
+    fn keep(&mut self, rank: u8, pattern: Pattern) -> Result<(), AllocError>
+        ensures has { OnOk result (has_pattern self.new.kept.items rank pattern ≡ true) }
+        ensures keeps { OnOk result (Keeps self.old.kept.items self.new.kept.items) }
+    {
+        if self.has(rank, pattern) {
+            return Ok(());
+        }
+        Ok(self.kept.push(AskedBy { rank, pattern })?)
+    }
+
+    fn add_poll(&mut self, rank: u8, waits: bool) -> Result<(), AllocError>
+        ensures allowed { OnOk result (IsAllowed (patterns_of self.new.kept.items) rank (cond waits wait poll)) }
+        ensures keeps { OnOk result (Keeps self.old.kept.items self.new.kept.items) }
+    {
+        if waits {
+            return Ok(());
+        }
+        self.keep(rank, Pattern::Poll)
+    }
+
+    fn add_source(&mut self, rank: u8, comm: u8, source: Option<u8>) -> Result<(), AllocError>
+        ensures wild { OnOk result (AsksFrom (wild_of self.new.kept.items) rank comm source) }
+        ensures keeps { OnOk result (Keeps self.old.kept.items self.new.kept.items) }
+    {
+        match source {
+            Some(_) => Ok(()),
+            None => self.keep(rank, Pattern::AnySource { comm }),
+        }
+    }
+
+    fn add_request(&mut self, rank: u8, waits: bool, request: &Request) -> Result<bool, AllocError>
+        ensures allowed { IfOk result (λ listed. IsTrue listed → IsAllowed (patterns_of self.new.kept.items) rank
+            (pattern_of_request waits request.now)) }
+        ensures wild { IfOk result (λ listed. IsTrue listed → AsksWithin (wild_of self.new.kept.items) rank request.now) }
+        ensures keeps { OnOk result (Keeps self.old.kept.items self.new.kept.items) }
+    {
+        match request {
+            Request::Send {
+                sync,
+                comm,
+                dest,
+                ..
+            } => {
+                let pattern = Pattern::Send {
+                    sync: *sync,
+                    dest: *dest,
+                    comm: *comm,
+                };
+                self.keep(rank, pattern)?;
+                Ok(true)
+            }
+            Request::Recv { comm, source, .. } => {
+                self.keep(rank, Pattern::Receive)?;
+                self.add_source(rank, *comm, *source)?;
+                Ok(true)
+            }
+            Request::Probe { comm, source, .. } => {
+                self.add_poll(rank, waits)?;
+                self.add_source(rank, *comm, *source)?;
+                Ok(true)
+            }
+            Request::Collect { .. } | Request::Finished { .. } | Request::All { .. } => {
+                self.add_poll(rank, waits)?;
+                Ok(true)
+            }
+            _ => Ok(false),
+        }
+    }
+
+    /// Adds what the rank asks, unless it is there. False where it has no pattern: claims and partitions.
+    pub fn add(&mut self, rank: u8, waits: bool, ask: &Ask) -> Result<bool, AllocError>
+        ensures allowed { IfOk result (λ listed. IsTrue listed → IsAllowed (patterns_of self.new.kept.items) rank
+            (pattern_of_ask waits ask.now)) }
+        ensures wild { IfOk result (λ listed. IsTrue listed → AskWithin (wild_of self.new.kept.items) rank ask.now) }
+        ensures keeps { OnOk result (Keeps self.old.kept.items self.new.kept.items) }
+    {
+        match ask {
+            Ask::Plain | Ask::Local | Ask::Idle => Ok(true),
+            Ask::Hub(request) => self.add_request(rank, waits, request),
+            _ => Ok(false),
+        }
+    }
+
+    /// Adds the others, unless they are there.
+    pub fn add_all(&mut self, others: &Patterns) -> Result<(), AllocError>
+        ensures adds { OnOk result (Keeps others.now.kept.items self.new.kept.items) }
+        ensures keeps { OnOk result (Keeps self.old.kept.items self.new.kept.items) }
+    {
+        for asked in others.kept.as_slice() {
+            self.keep(asked.rank, asked.pattern)?;
+        }
+        Ok(())
+    }
+}

@@ -1,0 +1,3 @@
+-- What crates above this one name of those below it.
+pub use Rattle.cl_contest_laws.proofs.Contest.{contest_law}
+pub use Rattle.cl_contest_laws.proofs.Unending.{never_ends_law}

@@ -1,0 +1,60 @@
+-- How a search goes: which turns are taken at once, beside those that need only their rank.
+use Rattle.std.specs.Prelude.{ℕ, ◌<◌, ◌≡◌, List, length}
+use Rattle.cl_machine.specs.Cluster.{Cluster}
+use Rattle.cl_order_laws.specs.Closed.{Node}
+use Rattle.mp_hub.specs.Hub.{HubView}
+use Rattle.cl_moves.specs.Posts.{most_posts}
+use Rattle.cl_moves.specs.Standing.{by_order, first_node}
+use Rattle.rv_image_types.specs.declared.images.ImageParts.{ImageParts}
+use Rattle.cl_contests.specs.Below.{Contest}
+use Rattle.cl_contests.specs.Below.{IsFit}
+use Rattle.cl_contest_laws.specs.Lists.{StartsWell}
+use Rattle.cl_contests.specs.Kept.{search_of}
+use Rattle.cl_contests.specs.declared.patterns.AskedBy.{AskedBy}
+use Rattle.cl_explore.specs.declared.course.Manner.{Manner}
+use Rattle.cl_explore.specs.declared.course.Way.{Way}
+use Rattle.cl_explore.specs.declared.course.Way.TheVariants as ways
+use Rattle.cl_explore.specs.declared.halt.Halt.{Halt}
+use Rattle.cl_explore.specs.declared.halt.Halt.TheVariants as halt
+
+-- no others; calls for what is there; or turns that nobody contests, by these patterns
+pub data How : Type 0 where
+  plainly : How
+  at_once : How
+  by_contest : Contest → How
+
+abbrev pub how_of : Way → List AskedBy → How
+how_of ways.Plainly kept = plainly
+how_of ways.AtOnce kept = at_once
+how_of ways.First kept = by_contest (search_of kept)
+
+abbrev pub how_in : Manner → How
+how_in manner = how_of manner.way manner.patterns.now.kept.items
+
+-- no turns go first
+abbrev pub IsUncontested : How → Type 0
+IsUncontested (by_contest contest) = ⊥
+IsUncontested _ = Unit {0}
+
+-- ---- what has to be known of a cluster, beside what is reached from it
+
+-- where calls for what is there are made at once, few posts were made
+abbrev pub HasRoom : How → HubView → Type 0
+HasRoom at_once hub = length hub.board.lines < most_posts
+HasRoom _ hub = Unit {0}
+
+-- where turns go first that nobody contests, all ranks may be let go
+abbrev pub IsFitFor : How → Cluster → Type 0
+IsFitFor (by_contest contest) cluster = IsFit contest cluster
+IsFitFor _ cluster = Unit {0}
+
+-- and the search begins at the loaded cluster, of ranks with one hart each
+abbrev pub MayBegin : How → ImageParts → List ℕ → Node → Type 0
+MayBegin (by_contest contest) image order start =
+    (start ≡ first_node image) × StartsWell contest (by_order order) start.cluster
+MayBegin _ image order start = Unit {0}
+
+-- a search is halted for what ranks ask only where turns go first
+abbrev pub IsHaltOf : Way → Halt → Type 0
+IsHaltOf goes (halt.Fault fault) = Unit {0}
+IsHaltOf goes halt.Outside = goes ≡ ways.First

@@ -1,5 +1,0 @@
-use Rattle.rvmc_packets.proofs.Kept as law
-use Rattle.rvmc_packets.proofs.laws.kept_law.Goals as goal
-
-pub returns : goal.returns
-returns c place byte fits = law.kept place.most place.stage place.text byte fits

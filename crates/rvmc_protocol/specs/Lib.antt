@@ -1,0 +1,4 @@
+pub mod Monitor
+pub mod Packets
+pub mod Replies
+pub mod Requests

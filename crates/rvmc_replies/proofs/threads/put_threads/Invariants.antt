@@ -1,8 +1,0 @@
-use Rattle.std.proofs.Common.{◌≡◌, ◌++◌}
-use Rattle.std.specs.Prelude.{codes}
-use Rattle.rvmc_replies.specs.Threads.{more_threads}
-use Rattle.rvmc_replies.proofs.threads.put_threads.Given as goal
-
--- the first thread, and those so far
-abbrev pub invariant-loop-further : goal.invariant-loop-further
-invariant-loop-further l = l.text.items ≡ l.fn.text.items ++ (codes "m1" ++ more_threads l.further)

@@ -1,0 +1,4 @@
+pub mod Sights
+pub mod Hex
+pub mod Aheads
+pub mod Below

@@ -1,0 +1,9 @@
+pub mod Arguments
+pub mod Instructions
+pub mod Gave
+pub mod Lines
+pub mod Seen
+pub mod Sights
+pub mod Rows
+pub mod Ahead
+pub mod Below

@@ -1,6 +1,0 @@
-use Rattle.std.specs.Prelude.{◌≡◌, replicate}
-use Rattle.rvmc_tally.proofs.grid.Grid.new.Given as goal
-
--- the rows so far
-abbrev pub invariant-loop-n : goal.invariant-loop-n
-invariant-loop-n l = l.made.items ≡ replicate l._n (replicate l.columns 0)

@@ -1,6 +1,0 @@
-use Rattle.rvmc_tally.specs.Hottest.{IsNextBelow}
-use Rattle.rvmc_tally.proofs.hottest.next_hottest.Given as goal
-
--- the first of the places so far
-abbrev pub invariant-loop-place : goal.invariant-loop-place
-invariant-loop-place l = IsNextBelow l.tally l.last l.place l.found

@@ -1,4 +1,0 @@
-pub mod Tallies
-pub mod Adding
-pub mod Counts
-pub mod Hottest

@@ -1,0 +1,122 @@
+"""Random guests whose ranks contest one another's messages: several send alike ones to one rank, and what a rank does next
+hangs on whose message it got."""
+
+import races
+from races import INCOMING, IPROBE, OUTGOING, PROBE, RECV, SEND, STATUSES, TEST
+
+
+# the calls that claim, and those that go on where nothing is there
+CLAIMS, POLLS = (26, 27, 28, 29), (22, 24, 26, 34)
+
+
+class Contests(races.Races):
+    """Guests that a draw makes. Most have no claim, link or second hart, with which nothing goes first, and no poll, which
+    contests all that others send and receive."""
+
+    def __init__(self, draw):
+        super().__init__(draw)
+        self.left_out = set()
+        # the rank that never ends, or None; and the one to which most messages go
+        self.spinning, self.to = None, 0
+
+    def such(self, make):
+        """What is drawn, without the calls that the guest hasn't."""
+        while True:
+            held, pieces = self.held, make()
+            if not any(line in self.left_out for piece in pieces for line in piece):
+                return pieces
+            self.held = held
+
+    def sends(self, message):
+        """A send of a message."""
+        return self.such(lambda: super(Contests, self).sends(message))
+
+    def receives(self, message):
+        """A receive of a message."""
+        return self.such(lambda: super(Contests, self).receives(message))
+
+    def looks(self, rank):
+        """A call that looks what is there, or is wrong."""
+        return self.such(lambda: super(Contests, self).looks(rank))
+
+    def further(self, rank):
+        """What a rank does in one case alone."""
+        other = self.below(self.ranks)
+        source, tag = self.random.choice([-1, other]), self.random.choice([-1, 0, 1])
+        return self.draw.one(
+            (lambda: self.call(SEND, (OUTGOING,), 8, other, self.below(2), 0), 4),
+            (lambda: self.call(races.SSEND, (OUTGOING,), 8, other, self.below(2), 0), 1),
+            (lambda: self.call(RECV, *self.incoming(), source, tag, 0, self.status()), 3),
+            (lambda: self.call(races.IRECV, *self.incoming(), source, tag, 0), 2),
+            (lambda: self.call(IPROBE, source, tag, 0, self.status()), 1),
+            (lambda: self.again(IPROBE, source, tag, 0, 0), 1),
+            (lambda: self.call(PROBE, source, tag, 0, self.status()), 1),
+            (lambda: self.call(TEST, 1 + self.below(2), 0), 1),
+            (lambda: ["ld t2, 3(s0)"], 1),
+            (lambda: ["ebreak"], 1),
+            (self.spin, 1),
+            (lambda: ["mv a0, s11", "li a7, 0", "ecall"], 1),
+        )
+
+    def spin(self):
+        """A loop that never ends."""
+        self.labels += 1
+        return [f"spin{self.labels}: j spin{self.labels}"]
+
+    def case(self, rank):
+        """Something that a rank does where a byte of what came in, or of a status, is this one."""
+        return self.such(lambda: [self.drawn_case(rank)])[0]
+
+    def drawn_case(self, rank):
+        """The same with any call."""
+        self.labels += 1
+        at = self.random.choice([STATUSES + 8 * self.below(5), INCOMING + 8 * self.below(6)])
+        name, value = f"case{self.labels}", self.random.choice([0, 1, 2, 1 + self.below(16)])
+        condition = self.random.choice(["beq", "bne"])
+        return [f"lbu t2, {at}(s0)", f"li t3, {value}", f"{condition} t2, t3, {name}", *self.further(rank), f"{name}:"]
+
+    def things_in_cases(self, rank, messages, links):
+        """What a rank does: its part in each message, and more in some cases."""
+        things = self.things(rank, 0, messages, links, False)
+        for pieces in things:
+            if self.chance(1, 4):
+                pieces.insert(1 + self.below(len(pieces)), self.case(rank))
+        things += [[self.spin()]] if rank == self.spinning else []
+        return things + ([[self.case(rank)]] if self.chance(1, 3) else [])
+
+    def message(self):
+        """Whose a message is, to whom, and its tag and communicator."""
+        source, dest, tag, comm = super().message()
+        return source, self.to if self.to in self.comms[comm] and source != self.to and self.chance(2, 3) else dest, tag, comm
+
+    def selected(self, message):
+        """A source, a tag and a communicator by which a message is received: mostly any source."""
+        source, tag, comm = super().selected(message)
+        return -1 if self.chance(1, 2) else source, tag, comm
+
+    def alike(self, message):
+        """Messages of several ranks that differ in whose they are alone."""
+        source, dest, tag, comm = message
+        others = [rank for rank in self.comms[comm] if rank not in (source, dest)]
+        return [message] + [(rank, dest, tag, comm) for rank in others[:1]]
+
+    def drawn(self):
+        """A guest, and its plan or None."""
+        self.ranks, self.harts = self.random.choice([2, 2, 2, 3, 3, 3, 3, 3, 4]), 1
+        if self.chance(1, 40):
+            self.harts = 2
+        none = set() if self.chance(1, 20) else set(CLAIMS)
+        none |= set() if self.chance(1, 3) else set(POLLS)
+        self.left_out, everybody = {f"li a7, {number}" for number in none}, list(range(self.ranks))
+        self.comms = [everybody] + [self.random.sample(everybody, 2) for _ in range(self.random.choice([0, 0, 1]))]
+        self.spinning, self.to = self.below(self.ranks) if self.chance(1, 8) else None, self.below(self.ranks)
+        messages = []
+        for _ in range(self.random.choice([1, 1, 2, 2, 2, 3])):
+            one = self.message()
+            messages += self.alike(one) if self.chance(1, 2) else [one]
+        links = [self.random.sample(everybody, 2)] if self.chance(1, 30) else []
+        self.tells, self.shape = self.chance(2, 3), self.random.choice(races.SHAPES)
+        # all of what came in and of the statuses is shown
+        shown = OUTGOING - INCOMING
+        image = self.image(links, shown, lambda rank, hart: self.things_in_cases(rank, messages[:4], links))
+        return image, self.random.choice([None, [0]]) if self.harts == 2 else None
