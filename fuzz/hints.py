@@ -169,8 +169,6 @@ def meant(words, given, first, out):
         return of_symbols(words, given)
     if first.startswith(b"rvmc: draw: TooMany "):
         return "a picture has at most 5000 marks: --from and --to draw a part of the record"
-    if first.startswith(b"rvmc: page: TooMany "):
-        return "a page has at most 200000 steps: --from and --to make one of a part of the record"
     if first == b"rvmc: plans\n":
         return of_plans(words, given)
     if first == b"rvmc: explore: NotAText 1\n":

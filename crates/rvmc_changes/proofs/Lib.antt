@@ -1,3 +1,4 @@
+pub mod Below
 pub mod Compared
 pub mod Edited
 pub mod Kept

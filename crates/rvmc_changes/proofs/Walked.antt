@@ -1,9 +1,9 @@
 -- The changes of steps that are done one after another.
-use Rattle.std.specs.Prelude.{ℕ, zero, suc, ◌≡◌, ◌+◌, ◌-◌, ◌<◌, ◌≤◌, ◌||◌, max, nat_lt, Bool, true, false, List, [], ◌∷◌, ◌++◌, drop, length}
-use Rattle.std.specs.Prelude.{map, slice_get, take, Some, IfOk, Result, Ok, Err}
+use Rattle.std.specs.Prelude.{ℕ, zero, suc, ◌≡◌, ◌+◌, ◌-◌, ◌<◌, ◌≤◌, max, List, [], ◌∷◌, ◌++◌, drop, length}
+use Rattle.std.specs.Prelude.{map, slice_get, take, Some}
 use Rattle.std.proofs.Common.{refl, sym, ap, ◌∙◌, subst, add-one, arith, length-drop}
-use Rattle.std.proofs.lemmas.Bool.{ltb-false}
-use Rattle.std.proofs.lemmas.List.{length-take-le, map-append}
+use Rattle.std.proofs.Math.Seq.{take-add}
+use Rattle.std.proofs.lemmas.List.{drop-drop, length-take-le, map-append}
 use Rattle.std.proofs.lemmas.Option.{same_Some}
 use Rattle.rv_hart.specs.State.{State}
 use Rattle.rv_hart.specs.Stepped.{stepped}
@@ -14,11 +14,12 @@ use Rattle.rv_memory.specs.Memory.{Memory, bytes_at}
 use Rattle.cl_machine.specs.Cluster.{CaseOf, Cluster, IsRun, IsStep, loaded_cluster}
 use Rattle.cl_machine.specs.declared.steps.Step.{Step}
 use Rattle.cl_replay.proofs.Asks.{plain_steps}
-use Rattle.cl_machine.proofs.Tables.{run_more}
+use Rattle.cl_machine.proofs.Tables.{one_end, run_more}
 use Rattle.cl_replay.proofs.Runs.{breaks, take_next}
 use Rattle.cl_replay.proofs.StatesThere.{state_there}
 use Rattle.cl_replay.specs.InnerReplaying.{BreaksAt}
 use Rattle.cl_replay.specs.Replaying.{IsReached}
+use Rattle.cl_replay.specs.Replays.{IsRunUpTo}
 use Rattle.cl_replay.specs.States.{ClusterStandsFor}
 use Rattle.cl_replay.specs.Steps.{Leads}
 use Rattle.cl_replay.specs.declared.states.ClusterState.{ClusterState}
@@ -32,23 +33,23 @@ use Rattle.cl_state.specs.declared.asking.Answer.{Answer}
 use Rattle.cl_state.specs.declared.asking.Ask.{Ask}
 use Rattle.cl_state.specs.declared.state.RankState.{RankState}
 use Rattle.cl_trace.specs.declared.events.Kind.{Kind}
-use Rattle.rvmc_changes.specs.WalkFaults.{WalkFaultHolds, is_past_end}
+use Rattle.rvmc_changes.specs.WalkFaults.{StepBreaks, StepsBreak}
 use Rattle.rvmc_changes.specs.Doing.{all_done, all_undone}
 use Rattle.rvmc_changes.proofs.Compared.{edits_cut}
 use Rattle.rvmc_changes.proofs.Places.{Tells, changes_more, places, shown, tells, told_there}
 use Rattle.rvmc_changes.proofs.Stored.{stored_edits}
-use Rattle.rvmc_changes.specs.Changes.{AreChanges, IsChange, difference, difference_in, hart_in, stand_of, stretch}
+use Rattle.rvmc_changes.specs.Changes.{AreChanges, Difference, IsChange, difference, hart_in, stand_of, stretch}
 use Rattle.rvmc_changes.specs.Edits.{edits_from}
 use Rattle.rvmc_changes.specs.Laws.{ShowsSeen, WalkLaw}
-use Rattle.rvmc_changes.specs.Seen.{registers_of, seen_rank}
-use Rattle.rvmc_changes.specs.Walking.{Adds, AreMade, IsAdded, IsChangeBehind, IsChangeIn, IsLookedAt, Makes, PlaceFaultHolds, StepBreaks, StepsBreak}
+use Rattle.rvmc_changes.specs.Seen.{SeenRank, registers_of, seen_rank}
+use Rattle.rvmc_changes.specs.Walking.{Adds, AreMade, GoesOn, HasCome, IsAdded, IsChangeBehind, IsChangeIn, IsLookedAt, Makes}
 use Rattle.rvmc_changes.specs.Walking.{seen_through, window_by, window_in}
-use Rattle.rvmc_changes.specs.Walks.{IsWalk, rank_at_start}
+use Rattle.rvmc_changes.specs.Given.{difference_in, differences}
+use Rattle.rvmc_changes.specs.Walks.{IsWalk}
 use Rattle.rvmc_changes.specs.declared.before.Before.{Before}
 use Rattle.rvmc_changes.specs.declared.before.Window.{Window}
 use Rattle.rvmc_changes.specs.declared.edits.Edit.{Edit}
 use Rattle.rvmc_changes.specs.declared.steps.Change.{Change}
-use Rattle.rvmc_changes.specs.declared.walks.Walk.{Walk}
 use Rattle.rvmc_changes.specs.declared.walks.WalkFault.{WalkFault}
 use Rattle.rvmc_changes.specs.declared.walks.WalkFault.TheVariants as fault
 
@@ -253,64 +254,152 @@ module _ (steps : List Step) (from n : ℕ) (old state : ClusterState) (changes 
         (breaks image steps n state (made image reached).reached e there h.1),
   )
   step_breaks to below fault.Memory h = tt
-  step_breaks to below (fault.PastEnd len) h = absurd h
 
 -- ---- the walk
 
-neither : (b c : Bool) → (b || c) ≡ false → (b ≡ false) × (c ≡ false)
-neither true c is = absurd (cc)
-neither false c is = (refl, is)
+-- two stretches, one behind the other
+stretch_both : (from mid to : ℕ) (steps : List Step) → from ≤ mid → mid ≤ to
+    → stretch from mid steps ++ stretch mid to steps ≡ stretch from to steps
+stretch_both from mid to steps early late =
+    ap (λ es. stretch from mid steps ++ take (to - mid) es)
+    (ap (λ n. drop n steps) (let same : mid ≡ from + (mid - from) = omega (arith, early) in same)
+    ∙ sym (drop-drop (mid - from) from steps))
+    ∙ sym (take-add (mid - from) (to - mid) (drop from steps))
+    ∙ ap (λ n. take n (drop from steps))
+    (let sum : (mid - from) + (to - mid) ≡ to - from = omega (arith, early, late) in sum)
 
-module _ (image : ImageParts) (steps : List Step) (from to : ℕ) (past : is_past_end from to steps ≡ false) where
-  from_inside : from ≤ length steps
-  from_inside = let low = ltb-false (length steps) from (neither (nat_lt (length steps) from) (nat_lt (length steps) to) past).0 in omega (arith, low)
+-- and their changes
+changes_both : (es fs : List Step) (ds gs : List Difference) (old mid new : Cluster) → AreChanges old es ds mid
+    → AreChanges mid fs gs new → AreChanges old (es ++ fs) (ds ++ gs) new
+changes_both [] fs [] gs old mid new are more = subst (λ c. AreChanges c fs gs new) are more
+changes_both [] fs (d ∷ ds) gs old mid new are more = absurd are
+changes_both (e ∷ es) fs [] gs old mid new are more = absurd are
+changes_both (e ∷ es) fs (d ∷ ds) gs old mid new are more =
+    (are.0, are.1, are.2, changes_both es fs ds gs are.0 mid new are.3 more)
 
-  to_inside : to ≤ length steps
-  to_inside =
-      let low = ltb-false (length steps) to (neither (nat_lt (length steps) from) (nat_lt (length steps) to) past).1 in
-      omega (arith, low)
+-- where a walk begins
+pub has_begun : (image : ImageParts) (steps : List Step) (from : ℕ) (state : ClusterState) → from ≤ length steps
+    → IsReached image steps from state → (start : List SeenRank)
+    → start ≡ map seen_rank (map rank_of state.ranks.items) → HasCome image steps from from start [] state
+has_begun image steps from state within reached start start_is = record {
+  forwards = omega arith;
+  old = reached.cluster;
+  at = (within, reached.run);
+  start_is = start_is ∙ ap (map seen_rank) (sym reached.stands.ranks_are);
+  reached = reached;
+  changes_are = subst (λ k. AreChanges reached.cluster (take k (drop from steps)) [] reached.cluster)
+      (let none : 0 ≡ from - from = omega arith in none) refl;
+}
 
-  pub is_walk : (end : ℕ) → end ≡ max from to → (state new : ClusterState) → IsReached image steps from state
-      → (walk : Walk) → map rank_at_start walk.start.items ≡ map seen_rank (map rank_of state.ranks.items)
-      → Makes steps from state end new walk.changes.items → IsWalk image steps from to walk
-  is_walk end there state new reached walk starts makes = record {
-    inside = to_inside;
-    old = reached.cluster;
-    new = (makes image reached).reached.cluster;
-    at = (from_inside, reached.run);
-    start_is = starts ∙ ap (map seen_rank) (sym reached.stands.ranks_are);
-    changes_are = subst (λ k. AreChanges reached.cluster (take k (drop from steps)) (map difference_in walk.changes.items)
-        (makes image reached).reached.cluster)
-        (let same : end - from ≡ to - from = omega (arith, there) in same) (makes image reached).are;
-  }
+-- it goes on by what its steps make
+pub goes_on : (steps : List Step) (from to : ℕ) (old new : ClusterState) (changes : List Change) → from ≤ to
+    → Makes steps from old to new changes → GoesOn steps from old to new (differences changes)
+goes_on steps from to old new changes forwards makes image begun start so_far come =
+    let made = makes image come.reached in
+    record {
+      forwards = (let early = come.forwards in omega (arith, early, forwards));
+      old = come.old;
+      at = come.at;
+      start_is = come.start_is;
+      reached = made.reached;
+      changes_are = subst (λ es. AreChanges come.old es (so_far ++ differences changes) made.reached.cluster)
+          (stretch_both begun from to steps come.forwards forwards)
+          (changes_both (stretch begun from steps) (stretch from to steps) so_far (differences changes) come.old
+          come.reached.cluster made.reached.cluster come.changes_are made.are);
+    }
 
-  -- or there is none
-  pub result_walk : (end : ℕ) → end ≡ max from to → (state new : ClusterState) → IsReached image steps from state
-      → (r : Result Walk WalkFault)
-      → IfOk r (λ (walk : Walk). map rank_at_start walk.start.items ≡ map seen_rank (map rank_of state.ranks.items))
-      → IfOk r (λ (walk : Walk). Makes steps from state end new walk.changes.items) → IfOk r (IsWalk image steps from to)
-  result_walk end there state new reached (Ok walk) starts makes = is_walk end there state new reached walk starts makes
-  result_walk end there state new reached (Err f) starts makes = tt
+-- ---- the rest of a walk
 
-  -- why not all steps were done is why there is no walk
-  pub walk_fault : (end : ℕ) → end ≡ max from to → (state : ClusterState) → IsReached image steps from state
-      → (f : WalkFault) → StepsBreak steps from state end f → WalkFaultHolds image steps from to f
-  walk_fault end there state reached (fault.NotARun n) h =
-      (past, (let below = h.0 in omega (arith, below, there)), h.1 image reached)
-  walk_fault end there state reached fault.Memory h = past
-  walk_fault end there state reached (fault.PastEnd len) h = absurd h
+-- each run has its changes
+changes_there : (es : List Step) (old new : Cluster) → IsRun old es new
+    → (ds : List Difference) × AreChanges old es ds new
+changes_there [] old new run = ([], run)
+changes_there (e ∷ es) old new run =
+    let t = tells old e run.0 run.1 in
+    let rest = changes_there es run.0 new run.2 in (
+      difference e t.rank (told t.rank e.hart t.answer e.stamp) ∷ rest.0,
+      (
+        run.0,
+        run.1,
+        record {
+          before = t.rank;
+          after = told t.rank e.hart t.answer e.stamp;
+          before_there = t.there;
+          after_there = told_there old e run.0 t;
+          is = refl;
+        },
+        rest.1,
+      ),
+    )
 
-  pub place_fault : (f : WalkFault) → PlaceFaultHolds image steps from f → WalkFaultHolds image steps from to f
-  place_fault (fault.NotARun n) h = (past, (let below = h.0 in omega (arith, below)), h.1)
-  place_fault fault.Memory h = past
-  place_fault (fault.PastEnd len) h = absurd h
+-- the front of a run, and what is behind it
+run_parts : (es fs : List Step) (old new : Cluster) → IsRun old (es ++ fs) new
+    → (mid : Cluster) × IsRun old es mid × IsRun mid fs new
+run_parts [] fs old new run = (old, refl, run)
+run_parts (e ∷ es) fs old new run =
+    let h = run_parts es fs run.0 new run.2 in (h.0, (run.0, run.1, h.1), h.2)
+
+-- the steps up to one place, and those from there to another
+parts_of : (n to : ℕ) (steps : List Step) → n ≤ to → take n steps ++ stretch n to steps ≡ take to steps
+parts_of n to steps le = sym (take-add n (to - n) steps) ∙ ap (λ k. take k steps) (let sum : n + (to - n) ≡ to = omega (arith, le) in sum)
+
+-- what stays of a run where steps behind a place are left out
+run_to : (image : ImageParts) (steps : List Step) (n m : ℕ) → n ≤ m → IsRunUpTo image steps m → IsRunUpTo image steps n
+run_to image steps n m le run =
+    let h = run_parts (take n steps) (stretch n m steps) (loaded_cluster image) run.0
+    (subst (λ es. IsRun (loaded_cluster image) es run.0) (sym (parts_of n m steps le)) run.1) in
+    (h.0, h.1)
+
+-- a walk that has come to its end; where it is to end before it begins, it has come there
+pub has_ended : (image : ImageParts) (steps : List Step) (from to : ℕ) (start : List SeenRank)
+    (changes : List Difference) (state : ClusterState) → HasCome image steps from (max from to) start changes state
+    → to ≤ length steps → IsWalk image steps from to start changes
+has_ended image steps from to start changes state come within = record {
+  inside = within;
+  old = come.old;
+  new = come.reached.cluster;
+  at = come.at;
+  start_is = come.start_is;
+  changes_are = subst (λ k. AreChanges come.old (take k (drop from steps)) changes come.reached.cluster)
+      (let same : max from to - from ≡ to - from = omega arith in same) come.changes_are;
+}
+
+-- and one on its way through a run comes there
+pub rest_there : (image : ImageParts) (steps : List Step) (from n to : ℕ) (start : List SeenRank)
+    (changes : List Difference) (state : ClusterState) → HasCome image steps from n start changes state
+    → IsRunUpTo image steps (length steps) → n ≤ max from to → to ≤ length steps
+    → (more : List Difference) × IsWalk image steps from to start (changes ++ more)
+rest_there image steps from n to start changes state come run near within =
+    let end = max from to in
+    let late : end ≤ length steps = (let at = come.at.0 in omega (arith, at, within)) in
+    let all = run_to image steps end (length steps) late run in
+    let h = run_parts (take n steps) (stretch n end steps) (loaded_cluster image) all.0
+    (subst (λ es. IsRun (loaded_cluster image) es all.0) (sym (parts_of n end steps near)) all.1) in
+    let here : h.0 ≡ come.reached.cluster =
+    one_end (loaded_cluster image) h.0 come.reached.cluster (take n steps) h.1 come.reached.run in
+    let more = changes_there (stretch n end steps) come.reached.cluster all.0
+    (subst (λ c. IsRun c (stretch n end steps) all.0) here h.2) in (
+      more.0,
+      record {
+        inside = within;
+        old = come.old;
+        new = all.0;
+        at = come.at;
+        start_is = come.start_is;
+        changes_are = subst (λ k. AreChanges come.old (take k (drop from steps)) (changes ++ more.0) all.0)
+            (let same : end - from ≡ to - from = omega arith in same)
+            (subst (λ es. AreChanges come.old es (changes ++ more.0) all.0)
+            (stretch_both from n end steps come.forwards near)
+            (changes_both (stretch from n steps) (stretch n end steps) changes more.0 come.old come.reached.cluster all.0
+            come.changes_are more.1));
+      },
+    )
 
 -- ---- what its changes come to
 
 pub walks_there : WalkLaw
-walks_there debugging from to walk w forwards inside =
+walks_there debugging from to start ds w forwards inside =
     let n = debugging.place - from in
-    let ds = map difference_in walk.changes.items in
     let es = stretch from to debugging.steps in
     let there = shown debugging from to w.old w.new ds forwards inside w.inside w.at w.changes_are in
     let long : length es ≡ to - from =

@@ -6,7 +6,6 @@ use Rattle.cl_state.specs.Rank.{Rank}
 use Rattle.cl_machine.specs.Cluster.{Cluster, IsStep}
 use Rattle.cl_machine.specs.declared.steps.Step.{Step}
 use Rattle.rvmc_changes.specs.declared.edits.Edit.{Edit}
-use Rattle.rvmc_changes.specs.declared.steps.Change.{Change}
 use Rattle.rvmc_changes.specs.declared.steps.Stand.{Stand}
 use Rattle.rvmc_changes.specs.Edits.{edits_from}
 use Rattle.rvmc_changes.specs.Seen.{registers_of}
@@ -23,18 +22,6 @@ pub record Difference : Type 0 where
   pub registers : List Edit
   pub bytes : List Edit
   pub put : List ℕ
-
--- what contracts see of a change
-abbrev pub difference_in : Change → Difference
-difference_in c = record {
-  rank = c.rank;
-  hart = c.hart;
-  old = c.old;
-  new = c.new;
-  registers = c.registers.items;
-  bytes = c.bytes.items;
-  put = c.put.items;
-}
 
 abbrev pub hart_in : Step → Rank → State
 hart_in e rank = get_or rank.harts e.hart no_hart

@@ -1,5 +1,5 @@
 -- What changes come to.
-use Rattle.std.specs.Prelude.{ℕ, ◌≡◌, ◌≤◌, ◌-◌, List, length, map, slice_get, take, Some}
+use Rattle.std.specs.Prelude.{ℕ, ◌≡◌, ◌≤◌, ◌-◌, List, length, slice_get, take, Some}
 use Rattle.cl_debug.specs.Debugging.{Debugging}
 use Rattle.cl_debug.specs.Places.{IsAt}
 use Rattle.cl_debug.specs.Shown.{ShowsRank}
@@ -7,10 +7,9 @@ use Rattle.cl_machine.specs.Cluster.{Cluster, IsRun}
 use Rattle.cl_machine.specs.declared.steps.Step.{Step}
 use Rattle.cl_state.specs.Rank.{Rank}
 use Rattle.rvmc_changes.specs.Doing.{all_done, all_undone}
-use Rattle.rvmc_changes.specs.Changes.{AreChanges, Difference, difference_in, stretch}
+use Rattle.rvmc_changes.specs.Changes.{AreChanges, Difference, stretch}
 use Rattle.rvmc_changes.specs.Seen.{SeenRank, seen_cluster, seen_rank}
-use Rattle.rvmc_changes.specs.Walks.{IsWalk, start_of}
-use Rattle.rvmc_changes.specs.declared.walks.Walk.{Walk}
+use Rattle.rvmc_changes.specs.Walks.{IsWalk}
 
 -- the first n of a run's changes lead from what is seen at its start to what is seen behind its first n steps, and back
 pub record LeadsThere (old : Cluster) (es : List Step) (ds : List Difference) (n : ℕ) : Type 0 where
@@ -40,16 +39,13 @@ ShownLaw =
     → AreChanges old (stretch from to debugging.steps) ds new
     → ShowsSeen debugging (all_done (take (debugging.place - from) ds) (seen_cluster old))
 
--- the first n changes of a walk
-abbrev pub first_changes : ℕ → Walk → List Difference
-first_changes n walk = take n (map difference_in walk.changes.items)
-
--- they lead from the walk's start to what a debugger shows n steps behind it, and back
-pub record WalksThere (debugging : Debugging) (walk : Walk) (n : ℕ) : Type 0 where
-  pub forwards : ShowsSeen debugging (all_done (first_changes n walk) (start_of walk))
-  pub back : all_undone (first_changes n walk) (all_done (first_changes n walk) (start_of walk)) ≡ start_of walk
+-- the first n changes of a walk lead from its start to what a debugger shows n steps behind it, and back
+pub record WalksThere (debugging : Debugging) (start : List SeenRank) (changes : List Difference) (n : ℕ) : Type 0 where
+  pub forwards : ShowsSeen debugging (all_done (take n changes) start)
+  pub back : all_undone (take n changes) (all_done (take n changes) start) ≡ start
 
 abbrev pub WalkLaw : Type 0
 WalkLaw =
-    (debugging : Debugging) (from to : ℕ) (walk : Walk) → IsWalk debugging.image debugging.steps from to walk
-    → from ≤ debugging.place → debugging.place ≤ to → WalksThere debugging walk (debugging.place - from)
+    (debugging : Debugging) (from to : ℕ) (start : List SeenRank) (changes : List Difference)
+    → IsWalk debugging.image debugging.steps from to start changes
+    → from ≤ debugging.place → debugging.place ≤ to → WalksThere debugging start changes (debugging.place - from)

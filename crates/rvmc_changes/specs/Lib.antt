@@ -1,6 +1,8 @@
+pub mod Below
 pub mod Changes
 pub mod Doing
 pub mod Edits
+pub mod Given
 pub mod Laws
 pub mod Seen
 pub mod WalkFaults

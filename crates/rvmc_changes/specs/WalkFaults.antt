@@ -1,26 +1,27 @@
--- Where a walk ends, and why there is none.
-use Rattle.std.specs.Prelude.{ℕ, ◌≡◌, ◌<◌, ◌||◌, nat_lt, Bool, true, false, max, List, length, Option}
-use Rattle.std.specs.Option.{unwrap_or}
+-- Why a walk doesn't begin, or go on.
+use Rattle.std.specs.Prelude.{ℕ, ◌≡◌, ◌<◌, List}
 use Rattle.rv_image_types.specs.declared.images.ImageParts.{ImageParts}
 use Rattle.cl_machine.specs.declared.steps.Step.{Step}
 use Rattle.cl_replay.specs.InnerReplaying.{BreaksAt}
+use Rattle.cl_replay.specs.Replaying.{IsReached}
+use Rattle.cl_replay.specs.Steps.{LeadsNowhere}
+use Rattle.cl_replay.specs.declared.states.ClusterState.{ClusterState}
 use Rattle.rvmc_changes.specs.declared.walks.WalkFault.{WalkFault}
 use Rattle.rvmc_changes.specs.declared.walks.WalkFault.TheVariants as fault
 
--- where it ends: with the record, where no other place is given
-abbrev pub last_place : Option ℕ → List Step → ℕ
-last_place to steps = unwrap_or to (length steps)
-
--- ---- why there is none
-
--- a place is behind the last step
-abbrev pub is_past_end : ℕ → ℕ → List Step → Bool
-is_past_end from to steps = nat_lt (length steps) from || nat_lt (length steps) to
-
--- places behind the end; a step before the walk's end that the machine doesn't have where those before it lead; or
+-- why a place wasn't reached from the start: the machine doesn't have a step before it where those before that lead; or
 -- memory
-abbrev pub WalkFaultHolds : ImageParts → List Step → ℕ → ℕ → WalkFault → Type 0
-WalkFaultHolds image steps from to (fault.PastEnd len) = (is_past_end from to steps ≡ true) × (len ≡ length steps)
-WalkFaultHolds image steps from to (fault.NotARun n) =
-    (is_past_end from to steps ≡ false) × (n < max from to) × BreaksAt image steps n
-WalkFaultHolds image steps from to fault.Memory = is_past_end from to steps ≡ false
+abbrev pub PlaceFaultHolds : ImageParts → List Step → ℕ → WalkFault → Type 0
+PlaceFaultHolds image steps to (fault.NotARun n) = (n < to) × BreaksAt image steps n
+PlaceFaultHolds image steps to fault.Memory = Unit {0}
+
+-- why a step wasn't done
+abbrev pub StepBreaks : ClusterState → ℕ → Step → WalkFault → Type 0
+StepBreaks old place e (fault.NotARun n) = (n ≡ place) × LeadsNowhere old e
+StepBreaks old place e fault.Memory = Unit {0}
+
+-- why not all steps up to a place were done
+abbrev pub StepsBreak : List Step → ℕ → ClusterState → ℕ → WalkFault → Type 0
+StepsBreak steps from old to (fault.NotARun n) =
+    (n < to) × ((image : ImageParts) → IsReached image steps from old → BreaksAt image steps n)
+StepsBreak steps from old to fault.Memory = Unit {0}

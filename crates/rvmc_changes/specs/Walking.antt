@@ -5,25 +5,23 @@ use Rattle.rv_hart.specs.State.{State}
 use Rattle.rv_hart.specs.Stores.{store_range}
 use Rattle.rv_image_types.specs.declared.images.ImageParts.{ImageParts}
 use Rattle.rv_memory.specs.Memory.{bytes_at}
+use Rattle.cl_debug.specs.Places.{IsAt}
 use Rattle.cl_machine.specs.Cluster.{Cluster}
 use Rattle.cl_machine.specs.declared.steps.Step.{Step}
-use Rattle.cl_replay.specs.InnerReplaying.{BreaksAt}
 use Rattle.cl_replay.specs.Replaying.{IsReached}
-use Rattle.cl_replay.specs.Steps.{LeadsNowhere}
 use Rattle.cl_replay.specs.declared.states.ClusterState.{ClusterState}
 use Rattle.cl_state.specs.Rank.{Rank}
 use Rattle.cl_state.specs.Room.{rank_of}
 use Rattle.cl_state.specs.declared.state.RankState.{RankState}
 use Rattle.cl_trace.specs.declared.events.Kind.{Kind}
-use Rattle.rvmc_changes.specs.Changes.{AreChanges, Difference, difference, difference_in, hart_in, stand_of, stretch}
+use Rattle.rvmc_changes.specs.Changes.{AreChanges, Difference, difference, hart_in, stand_of, stretch}
 use Rattle.rvmc_changes.specs.Edits.{edits_from}
-use Rattle.rvmc_changes.specs.Seen.{registers_of}
+use Rattle.rvmc_changes.specs.Given.{difference_in}
+use Rattle.rvmc_changes.specs.Seen.{SeenRank, registers_of, seen_cluster}
 use Rattle.rvmc_changes.specs.declared.before.Before.{Before}
 use Rattle.rvmc_changes.specs.declared.before.Window.{Window}
 use Rattle.rvmc_changes.specs.declared.edits.Edit.{Edit}
 use Rattle.rvmc_changes.specs.declared.steps.Change.{Change}
-use Rattle.rvmc_changes.specs.declared.walks.WalkFault.{WalkFault}
-use Rattle.rvmc_changes.specs.declared.walks.WalkFault.TheVariants as fault
 
 -- ---- the bytes that a step may change
 
@@ -102,12 +100,6 @@ Adds old e new changes after =
     → e.hart < length s.harts.items → e.hart < length t.harts.items
     → IsAdded e (rank_of s) (rank_of t) changes after
 
--- why a step wasn't done
-abbrev pub StepBreaks : ClusterState → ℕ → Step → WalkFault → Type 0
-StepBreaks old place e (fault.NotARun n) = (n ≡ place) × LeadsNowhere old e
-StepBreaks old place e fault.Memory = Unit {0}
-StepBreaks old place e _ = ⊥
-
 -- ---- one step after another
 
 -- the state is the cluster at a place, and these are the changes of the steps that lead there from another
@@ -122,15 +114,20 @@ Makes steps from old to new changes =
     (image : ImageParts) (reached : IsReached image steps from old)
     → AreMade image steps from reached.cluster to new changes
 
--- why not all steps up to a place were done
-abbrev pub StepsBreak : List Step → ℕ → ClusterState → ℕ → WalkFault → Type 0
-StepsBreak steps from old to (fault.NotARun n) =
-    (n < to) × ((image : ImageParts) → IsReached image steps from old → BreaksAt image steps n)
-StepsBreak steps from old to fault.Memory = Unit {0}
-StepsBreak steps from old to _ = ⊥
+-- ---- the walk on its way
 
--- why a place wasn't reached from the start
-abbrev pub PlaceFaultHolds : ImageParts → List Step → ℕ → WalkFault → Type 0
-PlaceFaultHolds image steps to (fault.NotARun n) = (n < to) × BreaksAt image steps n
-PlaceFaultHolds image steps to fault.Memory = Unit {0}
-PlaceFaultHolds image steps to _ = ⊥
+-- a walk that began at one place has come to another: the state is the cluster to which the changes lead
+pub record HasCome (image : ImageParts) (steps : List Step) (from to : ℕ) (start : List SeenRank)
+    (changes : List Difference) (state : ClusterState) : Type 0 where
+  pub forwards : from ≤ to
+  pub old : Cluster
+  pub at : IsAt image steps from old
+  pub start_is : start ≡ seen_cluster old
+  pub reached : IsReached image steps to state
+  pub changes_are : AreChanges old (stretch from to steps) changes reached.cluster
+
+-- whichever walk has come to the one place in the old state comes to the other in the new one, by these changes more
+abbrev pub GoesOn : List Step → ℕ → ClusterState → ℕ → ClusterState → List Difference → Type 0
+GoesOn steps from old to new more =
+    (image : ImageParts) (begun : ℕ) (start : List SeenRank) (changes : List Difference)
+    → HasCome image steps begun from start changes old → HasCome image steps begun to start (changes ++ more) new

@@ -5,10 +5,10 @@ ghost use Rattle.cl_replay.specs.Replaying.{IsReached};
 ghost use Rattle.cl_replay.specs.Steps.{Leads};
 ghost use Rattle.cl_state.specs.Room.{rank_of};
 ghost use Rattle.cl_state.specs.declared.state.RankState.{RankState};
-ghost use Rattle.rvmc_changes.specs.Seen.{seen_rank};
-ghost use Rattle.rvmc_changes.specs.WalkFaults.{WalkFaultHolds, is_past_end as is_past_of, last_place};
-ghost use Rattle.rvmc_changes.specs.Walking.{Adds, Fits, IsAdded, IsBefore, Makes, PlaceFaultHolds, StepBreaks, StepsBreak};
-ghost use Rattle.rvmc_changes.specs.Walks.{IsWalk, rank_at_start};
+ghost use Rattle.rvmc_changes.specs.WalkFaults.{PlaceFaultHolds, StepBreaks, StepsBreak};
+ghost use Rattle.rvmc_changes.specs.Given.{differences};
+ghost use Rattle.rvmc_changes.specs.Walking.{Adds, Fits, GoesOn, HasCome, IsAdded, IsBefore, Makes};
+ghost use Rattle.rvmc_changes.specs.Walks.{seen_at_start};
 ghost use Rattle.rvmc_changes.specs.declared.walks.WalkFault.TheVariants as faults;
 
 use crate::before::{Before, look_at};
@@ -20,14 +20,6 @@ use cl_machine::Step;
 use cl_replay::{ClusterState, ReplayFault, StepFault, replay};
 use rv_image_types::Image;
 use std::alloc::Global;
-
-/// Whether a walk would begin or end behind the last step.
-fn is_past(from: u64, to: u64, steps: &[Step]) -> bool
-    ensures { result ≡ is_past_of from to steps.now }
-{
-    let len = steps.len() as u64;
-    from > len || to > len
-}
 
 /// The cluster at a place.
 fn state_at(
@@ -123,50 +115,46 @@ fn put_changes(
     Ok(())
 }
 
-/// What is seen of a cluster, and the changes of the steps from there on, which are done.
-fn walk_from(
+/// A walk that begins at a place of a record: what is seen there, and the cluster, from which `go_on` goes on.
+///
+/// Refusals, in this order: NotARun where a step before the place is none of the machine; Memory.
+#[tactic(auto, using(crate::proofs::Walked::has_begun))]
+pub fn begin(alloc: Global, image: &Image, steps: &[Step], place: u64) -> Result<Walk, WalkFault>
+    requires { place ≤ length steps.now }
+    ensures begun { IfOk result (λ walk.
+        HasCome image.now steps.now place place (seen_at_start walk.start.items) [] walk.state) }
+    ensures fault { IfErr result (PlaceFaultHolds image.now steps.now place) }
+{
+    let state = state_at(alloc, image, steps, place)?;
+    let start = start_of(alloc, &state)?;
+    Ok(Walk { start, state })
+}
+
+/// Does the steps from one place to another, and gives the change of each. So a long walk is made piece by piece.
+///
+/// Refusals, in this order: NotARun where one of these steps is none of the machine; Memory. The state may then be
+/// anything.
+#[tactic(auto, using(crate::proofs::Walked::goes_on))]
+pub fn go_on(
     alloc: Global,
     state: &mut ClusterState,
     steps: &[Step],
-    from: usize,
-    to: usize,
-) -> Result<Walk, WalkFault>
+    from: u64,
+    to: u64,
+) -> Result<Vec<Change>, WalkFault>
     requires order { from ≤ to }
     requires within { to ≤ length steps.now }
-    ensures start { IfOk result (λ walk.
-        map rank_at_start walk.start.items ≡ map seen_rank (map rank_of state.old.ranks.items)) }
-    ensures made { IfOk result (λ walk. Makes steps.now from state.old to state.new walk.changes.items) }
+    ensures on { IfOk result (λ changes. GoesOn steps.now from state.old to state.new (differences changes.items)) }
     ensures fault { IfErr result (StepsBreak steps.now from state.old to) }
 {
-    let mut walk = Walk {
-        start: start_of(alloc, state)?,
-        changes: Vec::new(alloc),
-    };
-    put_changes(alloc, state, &mut walk.changes, steps, from, to)?;
-    Ok(walk)
-}
-
-/// A record as what is seen at one place of it, and what each step from there to another changed, or else to the end.
-/// Where the other place is before the one there are no changes.
-///
-/// Refusals, in this order: PastEnd where a place is behind the last step; NotARun where a step before the walk's end is
-/// none of the machine; Memory.
-#[tactic(auto, using(crate::proofs::Walked::is_walk, crate::proofs::Walked::walk_fault, crate::proofs::Walked::place_fault))]
-pub fn walk(
-    alloc: Global,
-    image: &Image,
-    steps: &[Step],
-    from: u64,
-    to: Option<u64>,
-) -> Result<Walk, WalkFault>
-    ensures is { IfOk result (IsWalk image.now steps.now from (last_place to steps.now)) }
-    ensures fault { IfErr result (WalkFaultHolds image.now steps.now from (last_place to steps.now)) }
-{
-    let last = to.unwrap_or(steps.len() as u64);
-    if is_past(from, last, steps) {
-        return Err(WalkFault::PastEnd(steps.len() as u64));
-    }
-    let end = from.max(last);
-    let mut state = state_at(alloc, image, steps, from)?;
-    walk_from(alloc, &mut state, steps, from as usize, end as usize)
+    let mut changes = Vec::new(alloc);
+    put_changes(
+        alloc,
+        state,
+        &mut changes,
+        steps,
+        from as usize,
+        to as usize,
+    )?;
+    Ok(changes)
 }

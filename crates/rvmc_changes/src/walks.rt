@@ -1,28 +1,27 @@
-//! A record as its start and the changes of its steps.
+//! A walk through a record.
 
 ghost use Rattle.std.specs.Prelude.{◌≡◌};
 ghost use Rattle.rvmc_changes.specs.declared.walks.WalkFault.TheVariants as faults;
 
 use crate::starts::RankStart;
-use crate::steps::Change;
+use cl_replay::ClusterState;
 use std::alloc::{AllocError, AllocFailed};
 
-/// What is seen where a stretch of a record starts, and what each of its steps changed.
+/// A walk that has begun.
 #[derive(Drop)]
 pub struct Walk {
-    /// Of each rank.
+    /// What is seen of each rank where it starts.
     pub start: Vec<RankStart>,
-    pub changes: Vec<Change>,
+    /// The cluster where it has come to.
+    pub state: ClusterState,
 }
 
-/// Why there is no walk.
+/// Why a walk doesn't begin, or go on.
 #[derive(Clone, Copy, Drop)]
 pub enum WalkFault {
-    /// 1: a place is behind the end. Carries the number of steps.
-    PastEnd(u64),
-    /// 2: the machine has no such step where the steps before it lead. Carries its number, from 0.
+    /// 1: the machine has no such step where the steps before it lead. Carries its number, from 0.
     NotARun(u64),
-    /// 3: memory was refused.
+    /// 2: memory was refused.
     Memory,
 }
 

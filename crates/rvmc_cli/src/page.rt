@@ -32,17 +32,16 @@ line. The bytes of the sources follow the record, on the same input and in the
 order of the options. NAME is what the program's symbols call the source, with
 no `=` in it. `rvmc-mpi page` does this for you.
 
-A page has at most 200,000 steps; more are an error, as
-`rvmc: page: TooMany 200001`: make one of a part, by --from and --to. Other
-errors are a place that doesn't exist, as `rvmc: page: PastEnd 10`, and steps
-that aren't a run of the image, as `rvmc: page: NotARun 3`. If there are too many
-marks for a picture, the page has none.
+A record of any length has a page, of some 30 bytes a step; --from and --to make
+one of a part. If there are too many marks for a picture, the page has none.
+Errors are a place that doesn't exist, as `rvmc: page: PastEnd 10`, and steps
+that aren't a run of the image, as `rvmc: page: NotARun 3`.
 
 At most 67,108,864 bytes are read, from FILE or else from standard input. With -o
 the output goes to a file, which is in its place once it is whole.
 
 Status:
-  0 done, 1 error in the record, no such place, or too many steps,
+  0 done, 1 error in the record, or no such place,
   2 error in the command line,
   5 out of memory, 6 a read or write failed, or the input is too long
 

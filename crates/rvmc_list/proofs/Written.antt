@@ -25,7 +25,8 @@ use Rattle.rvmc_list.specs.Meeting.{IsCountedTo, IsMet}
 use Rattle.rvmc_list.specs.Phases.{Scene, phase_in}
 use Rattle.rvmc_list.specs.Pieces.{behind, closing}
 use Rattle.rvmc_list.specs.Putting.{ArePut, PutFaultHolds, Puts, StepsFaultHolds}
-use Rattle.rvmc_list.specs.Written.{IsBegun, IsChecked, IsMoved, IsWritten, Leaves}
+use Rattle.rvmc_sights.specs.Pieces.{IsMoved}
+use Rattle.rvmc_list.specs.Written.{IsBegun, IsChecked, IsWritten, Leaves}
 use Rattle.rvmc_list.specs.declared.folding.Wanted.{Wanted}
 use Rattle.rvmc_list.specs.declared.phases.Phases.{Phases}
 use Rattle.rvmc_list.specs.declared.walk.ListFault.{ListFault}

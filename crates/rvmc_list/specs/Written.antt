@@ -38,9 +38,3 @@ pub record IsChecked (image : ImageParts) (steps : List Step) (wanted : Wanted) 
   pub rank : names_no_rank wanted.rank image.ranks ≡ false
   pub within : is_past wanted steps ≡ false
   pub run : IsRunUpTo image steps (max wanted.from to)
-
--- the front of what is told was moved to the writer
-pub record IsMoved (old new : List ℕ) (before after : Option (List ℕ)) : Type 0 where
-  pub front : List ℕ
-  pub all : old ≡ front ++ new
-  pub there : Appends before after front

@@ -8,7 +8,8 @@ ghost use Rattle.rvmc_list.specs.List.{ListFaultHolds};
 ghost use Rattle.rvmc_list.specs.Meeting.{IsCountedTo};
 ghost use Rattle.rvmc_list.specs.Pieces.{IsWithin};
 ghost use Rattle.rvmc_list.specs.Putting.{PutFaultHolds, Puts, StepsFaultHolds};
-ghost use Rattle.rvmc_list.specs.Written.{IsBegun, IsChecked, IsMoved, IsWritten, Leaves};
+ghost use Rattle.rvmc_list.specs.Written.{IsBegun, IsChecked, IsWritten, Leaves};
+ghost use Rattle.rvmc_sights.specs.Pieces.{IsMoved};
 ghost use Rattle.rvmc_list.specs.declared.walk.ListFault.TheVariants.{Memory};
 
 use crate::folding::{Told, Wanted, close, is_wanted, put_line};
@@ -19,11 +20,9 @@ use crate::walk::{ListFault, advance, checked, do_step, state_at};
 use cl_machine::Step;
 use cl_replay::ClusterState;
 use rv_image_types::{Image, Symbol};
+use rvmc_sights::put_piece;
 use std::alloc::Global;
 use std::io::Write;
-
-/// How many bytes a piece of the text has at least, but for the last one.
-const PIECE: usize = 65_536;
 
 /// A step that is to be done: its place, and the phase of the box that it asks.
 #[derive(Clone, Copy, Drop)]
@@ -99,17 +98,10 @@ fn put_step(
 }
 
 /// Writes what is told once it is a piece and no line is begun, and says whether the writer took it.
-fn put_piece<W: Write>(text: &mut Vec<u8>, begun: Option<u64>, out: &mut W) -> bool
+fn put_lines<W: Write>(text: &mut Vec<u8>, begun: Option<u64>, out: &mut W) -> bool
     ensures { result ≡ true → IsMoved text.old.items text.new.items (W.contents out.old) (W.contents out.new) }
 {
-    if text.len() < PIECE || begun.is_some() {
-        return true;
-    }
-    if out.write_all(text.as_slice()).is_err() {
-        return false;
-    }
-    text.clear();
-    true
+    begun.is_some() || put_piece(text, out)
 }
 
 /// Does the steps from one place to another, writes what is told of them piece by piece, and says whether the writer took
@@ -145,7 +137,7 @@ fn put_steps<W: Write>(
             phase,
         };
         begun = put_step(state, &mut text, texts, symbols, wanted, begun, &due)?;
-        if !put_piece(&mut text, begun, out) {
+        if !put_lines(&mut text, begun, out) {
             return Ok(false);
         }
     }

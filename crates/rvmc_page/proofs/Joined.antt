@@ -1,23 +1,40 @@
 -- A page's parts, one behind another, and the rows of a memory.
-use Rattle.std.specs.Prelude.{ℕ, ◌≡◌, ◌<◌, ◌≤◌, ◌⊎◌, ◌+◌, ◌-◌, ◌*◌, List, [], ◌++◌, drop, length, min, take}
+use Rattle.std.specs.Prelude.{ℕ, ◌≡◌, ◌<◌, ◌≤◌, ◌⊎◌, ◌+◌, ◌-◌, ◌*◌, List, ◌++◌, drop, length, min, take}
 use Rattle.std.specs.List.{flat_map, range_with_len}
 use Rattle.std.proofs.Common.{◌∙◌, ap, append_assoc, arith, inl, inr, sym}
 use Rattle.std.proofs.lemmas.Bool.{cases_lt}
 use Rattle.std.proofs.lemmas.List.{length-drop, take_all}
+use Rattle.std.proofs.lemmas.List.Folds.{flat_map-map}
+use Rattle.rvmc_changes.specs.Given.{difference_in}
+use Rattle.rvmc_changes.specs.Given.{differences}
+use Rattle.rvmc_changes.specs.declared.steps.Change.{Change}
 use Rattle.rvmc_report.proofs.Digits.{flat_map-range_more}
 use Rattle.rvmc_page.specs.Starts.{row_line, row_text}
+use Rattle.rvmc_page.specs.Steps.{change_text, changes_text}
 
--- what was added in six parts
-pub joined : (a b c d e f one two three four five six : List ℕ) → one ≡ [] ++ a → two ≡ one ++ b → three ≡ two ++ c
-    → four ≡ three ++ d → five ≡ four ++ e → six ≡ five ++ f → six ≡ a ++ (b ++ (c ++ (d ++ (e ++ f))))
-joined a b c d e f one two three four five six is1 is2 is3 is4 is5 is6 =
-    is6
-    ∙ ap (λ l. l ++ f) (is5
-    ∙ ap (λ l. l ++ e) (is4 ∙ ap (λ l. l ++ d) (is3 ∙ ap (λ l. l ++ c) (is2 ∙ ap (λ l. l ++ b) is1))))
-    ∙ append_assoc (((a ++ b) ++ c) ++ d) e f
-    ∙ append_assoc ((a ++ b) ++ c) d (e ++ f)
-    ∙ append_assoc (a ++ b) c (d ++ (e ++ f))
-    ∙ append_assoc a b (c ++ (d ++ (e ++ f)))
+-- what was added in four parts, and in five
+joined_four : (old a b c d one two three four : List ℕ) → one ≡ old ++ a → two ≡ one ++ b → three ≡ two ++ c
+    → four ≡ three ++ d → four ≡ old ++ (a ++ (b ++ (c ++ d)))
+joined_four old a b c d one two three four is1 is2 is3 is4 =
+    is4
+    ∙ ap (λ l. l ++ d) (is3 ∙ ap (λ l. l ++ c) (is2 ∙ ap (λ l. l ++ b) is1))
+    ∙ append_assoc ((old ++ a) ++ b) c d
+    ∙ append_assoc (old ++ a) b (c ++ d)
+    ∙ append_assoc old a (b ++ (c ++ d))
+
+pub joined_five : (old a b c d e one two three four five : List ℕ) → one ≡ old ++ a → two ≡ one ++ b → three ≡ two ++ c
+    → four ≡ three ++ d → five ≡ four ++ e → five ≡ old ++ (a ++ (b ++ (c ++ (d ++ e))))
+joined_five old a b c d e one two three four five is1 is2 is3 is4 is5 =
+    joined_four old a b c (d ++ e) one two three five is1 is2 is3 (is5 ∙ ap (λ l. l ++ e) is4 ∙ append_assoc three d e)
+
+-- ---- changes
+
+-- the text of a change, as contracts see the change
+abbrev pub text_of : Change → List ℕ
+text_of change = change_text (difference_in change)
+
+pub texts_of : (changes : List Change) → flat_map text_of changes ≡ changes_text (differences changes)
+texts_of changes = sym (flat_map-map change_text difference_in changes)
 
 -- ---- rows
 

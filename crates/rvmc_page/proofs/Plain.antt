@@ -10,10 +10,10 @@ use Rattle.rv_hart.specs.declared.state.Mode.TheVariants.{Running, Waiting, Ende
 use Rattle.rv_image_types.specs.declared.images.ImageParts.{ImageParts}
 use Rattle.rv_image_types.specs.declared.images.Symbol.{Symbol}
 use Rattle.rv_memory.specs.Fault.{cause_number}
+use Rattle.rvmc_changes.specs.Changes.{Difference}
 use Rattle.rvmc_changes.specs.declared.edits.Edit.{Edit}
 use Rattle.rvmc_changes.specs.declared.starts.HartStart.{HartStart}
 use Rattle.rvmc_changes.specs.declared.starts.RankStart.{RankStart}
-use Rattle.rvmc_changes.specs.declared.steps.Change.{Change}
 use Rattle.rvmc_changes.specs.declared.steps.Stand.{Stand}
 use Rattle.rvmc_draw.specs.declared.drawing.Arrow.{Arrow}
 use Rattle.rvmc_draw.specs.declared.drawing.Carried.{Carried}
@@ -27,7 +27,7 @@ use Rattle.rvmc_page.specs.Escaped.{hex_pairs, spelled_byte, escaped_in_lines, i
 use Rattle.rvmc_page.specs.Pages.{awaited_text, data_of, ways_text, told_lines}
 use Rattle.rvmc_page.specs.Plain.{IsPlain}
 use Rattle.rvmc_page.specs.Starts.{hart_start_text, hex, mode_letter, rank_start_text, row_bytes, row_line, row_text, stand_text}
-use Rattle.rvmc_page.specs.Steps.{changed_byte, change_text, put_text, changed_register}
+use Rattle.rvmc_page.specs.Steps.{changed_byte, change_text, changes_text, put_text, changed_register}
 use Rattle.rvmc_page.specs.Texts.{source_text}
 use Rattle.rvmc_page.specs.Told.{arrow_text, carried_bytes, arrival_text, symbol_entry, wait_entry, way_text}
 use Rattle.rvmc_page.specs.declared.pages.Page.{Page}
@@ -200,12 +200,12 @@ a_put : (bytes : List ℕ) → Plain (put_text bytes)
 a_put [] = nothing
 a_put (b ∷ bytes) = word (codes " o") refl & some_bytes (b ∷ bytes)
 
-a_change : (c : Change) → Plain (change_text c)
+a_change : (c : Difference) → Plain (change_text c)
 unfolding change_text
 a_change c =
     (a_decimal c.rank & (blank & (a_decimal c.hart & (blank & (a_stand c.old & (blank & a_stand c.new))))))
-    & (each changed_register a_register c.registers.items
-    & (each changed_byte a_byte c.bytes.items & (a_put c.put.items & line_end)))
+    & (each changed_register a_register c.registers
+    & (each changed_byte a_byte c.bytes & (a_put c.put & line_end)))
 
 -- ---- what is told
 
@@ -271,11 +271,13 @@ all_told (Some shown) = each escaped_in_lines in_lines shown.drawing.told.items
 
 pub plain_data : (image : ImageParts) (page : Page) (p : Part) → Plain (data_of image page p)
 plain_data image page part.First = a_decimal page.from & line_end
-plain_data image page part.Start = each rank_start_text a_rank page.walk.start.items
-plain_data image page part.Steps = each change_text a_change page.walk.changes.items
+plain_data image page part.Start = each rank_start_text a_rank page.start.items
 plain_data image page part.Program = each escaped_in_lines in_lines (listing image)
 plain_data image page part.Names = each symbol_entry a_name image.symbols
 plain_data image page part.Texts = each source_text a_source page.texts.now
 plain_data image page part.Ways = all_ways page.shown
 plain_data image page part.Waits = all_awaited page.shown
 plain_data image page part.Told = all_told page.shown
+
+pub plain_changes : (changes : List Difference) → Plain (changes_text changes)
+plain_changes changes = each change_text a_change changes

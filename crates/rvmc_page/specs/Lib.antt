@@ -6,3 +6,4 @@ pub mod Starts
 pub mod Steps
 pub mod Texts
 pub mod Told
+pub mod Written

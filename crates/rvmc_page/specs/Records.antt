@@ -1,10 +1,11 @@
 -- The page of a record, and why there is none.
-use Rattle.std.specs.Prelude.{ℕ, ◌≡◌, ◌<◌, ◌≤◌, ◌-◌, true, false, List, length, map, Option, Some, None}
+use Rattle.std.specs.Prelude.{ℕ, ◌≡◌, true, false, List, length, map, Option, Some, None}
 use Rattle.std.specs.List.{All}
 use Rattle.rv_image_types.specs.declared.images.ImageParts.{ImageParts}
 use Rattle.cl_machine.specs.declared.steps.Step.{Step}
 use Rattle.rvmc_picture.specs.Below.{BreaksAt}
-use Rattle.rvmc_changes.specs.Walks.{IsWalk}
+use Rattle.rvmc_changes.specs.Changes.{Difference}
+use Rattle.rvmc_changes.specs.Walks.{IsWalk, seen_at_start}
 use Rattle.rvmc_draw.specs.declared.views.View.{View}
 use Rattle.rvmc_picture.specs.Pictures.{HasTooMany, IsDrawing, is_past_end}
 use Rattle.rvmc_svg.specs.Safe.{IsAllowed}
@@ -23,11 +24,11 @@ IsShownOf image steps view (Some shown) =
     IsDrawing image steps view shown.drawing × All IsAllowed shown.picture.items
     × IsShown shown.drawing shown.picture.items
 
--- what a page of the steps in view shows, and of the sources
+-- what a page shows of the steps in view, and of the sources
 pub record IsPageOf (image : ImageParts) (steps : List Step) (view : View) (sources : List Source) (page : Page)
-    : Type 0 where
+    (changes : List Difference) : Type 0 where
   pub from : page.from ≡ view.from
-  pub walk : IsWalk image steps view.from view.to page.walk
+  pub walk : IsWalk image steps view.from view.to (seen_at_start page.start.items) changes
   pub texts : map source_of page.texts.now ≡ sources
   pub shown : IsShownOf image steps view page.shown
 
@@ -35,23 +36,14 @@ pub record IsPageOf (image : ImageParts) (steps : List Step) (view : View) (sour
 pub record IsPage (image : ImageParts) (steps : List Step) (view : View) (sources : List Source) (text : List ℕ)
     : Type 0 where
   pub page : Page
-  pub is : IsPageOf image steps view sources page
-  pub text_is : text ≡ page_of image page
+  pub changes : List Difference
+  pub is : IsPageOf image steps view sources page changes
+  pub text_is : text ≡ page_of image page changes
 
 -- ---- why there is none
 
-abbrev pub steps_max : ℕ
-steps_max = 200000
-
-abbrev pub count_in : View → ℕ
-count_in view = view.to - view.from
-
--- places behind the end; too many steps in view; a step that the machine doesn't have where those before it lead; or
--- memory
+-- places behind the end; a step that the machine doesn't have where those before it lead; or memory
 abbrev pub PageFaultHolds : ImageParts → List Step → View → PageFault → Type 0
 PageFaultHolds image steps view (fault.PastEnd len) = (is_past_end view steps ≡ true) × (len ≡ length steps)
-PageFaultHolds image steps view (fault.TooMany count) =
-    (is_past_end view steps ≡ false) × (count ≡ count_in view) × (steps_max < count)
-PageFaultHolds image steps view (fault.NotARun n) =
-    (is_past_end view steps ≡ false) × (count_in view ≤ steps_max) × BreaksAt image steps n
+PageFaultHolds image steps view (fault.NotARun n) = (is_past_end view steps ≡ false) × BreaksAt image steps n
 PageFaultHolds image steps view fault.Memory = is_past_end view steps ≡ false

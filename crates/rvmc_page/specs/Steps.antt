@@ -2,8 +2,8 @@
 use Rattle.std.specs.Prelude.{ℕ, List, [], ◌∷◌, ◌++◌, codes}
 use Rattle.std.specs.Fmt.{decimal}
 use Rattle.std.specs.List.{flat_map}
+use Rattle.rvmc_changes.specs.Changes.{Difference}
 use Rattle.rvmc_changes.specs.declared.edits.Edit.{Edit}
-use Rattle.rvmc_changes.specs.declared.steps.Change.{Change}
 use Rattle.rvmc_report.specs.Report.{newline}
 use Rattle.rvmc_page.specs.Escaped.{hex_pairs}
 use Rattle.rvmc_page.specs.Starts.{hex, stand_text}
@@ -22,17 +22,16 @@ put_text [] = []
 put_text (b ∷ bytes) = codes " o" ++ hex_pairs (b ∷ bytes)
 
 -- a step's rank and hart, and where the hart stood and stands, as `0 1 1a4 1a8`
-abbrev pub change_head : Change → List ℕ
+abbrev pub change_head : Difference → List ℕ
 change_head c =
     decimal c.rank
     ++ (codes " " ++ (decimal c.hart ++ (codes " " ++ (stand_text c.old ++ (codes " " ++ stand_text c.new)))))
 
 -- and behind it what else the step changed, as `0 1 1a4 1a8 x10.0.1f`
-unfoldable pub change_text : Change → List ℕ
+unfoldable pub change_text : Difference → List ℕ
 change_text c =
     change_head c
-    ++ (flat_map changed_register c.registers.items
-    ++ (flat_map changed_byte c.bytes.items ++ (put_text c.put.items ++ newline)))
+    ++ (flat_map changed_register c.registers ++ (flat_map changed_byte c.bytes ++ (put_text c.put ++ newline)))
 
-abbrev pub changes_text : List Change → List ℕ
+abbrev pub changes_text : List Difference → List ℕ
 changes_text changes = flat_map change_text changes

@@ -1,14 +1,15 @@
 //! What is the same in every page: all but the picture, the data and the script.
 
 /// Before the picture: that a browser fetches nothing for the page, and runs the one script with this hash, which
-/// `tests/checks/page --write` puts here (W3C, Content Security Policy 3); and styles, in light and dark, and narrow.
+/// `tests/checks/page --write` puts here (W3C, Content Security Policy 3); and styles, in light and dark, and narrow. The
+/// steps' numbers have a margin of their own, `--gutter`, which nothing beside the first lane covers.
 pub(crate) const HEAD: &str = "\
 <!doctype html>
 <html lang=en>
 <meta charset=utf-8>
 <meta name=viewport content='width=device-width'>
 <meta http-equiv=Content-Security-Policy content=\"default-src 'none'; style-src 'unsafe-inline';
- script-src 'sha256-F68tBqKN+w0PuXTL0U3UNOe+aTcuOk4FCY5lXId21fU='\">
+ script-src 'sha256-kWLVOJYKeZbdOL5CORqfG6z82SFqr+5klWv1gGAo9os='\">
 <title>rvmc: a record</title>
 <style>
 :root{color-scheme:light dark;font:13px system-ui,sans-serif;--ink:#1c1c1c;--dim:#666;--paper:#fff;--rule:#ccc;
@@ -19,20 +20,28 @@ pub(crate) const HEAD: &str = "\
 --fresh:#ff9c8a;--present:#4a4013;--r0:#56b4e9;--r1:#ff8a3d;--r2:#2fd6a3;--r3:#e59ccb;--r4:#f0e442;--r5:#9fd3ff;--r6:#d9a066;
 --r7:#bbb}
 :root.big{--ink:#fff;--dim:#fff;--paper:#000;--rule:#fff;--fresh:#ffb3a6;--present:#665500}}
-body{margin:0;display:grid;height:100vh;background:var(--paper);color:var(--ink);
+body{margin:0;display:grid;height:100vh;height:100dvh;background:var(--paper);color:var(--ink);
 grid-template:'picture machine' minmax(0,1fr)/minmax(0,1fr) min(36.2rem,50vw)}
 body.sourced{grid-template:'picture machine' minmax(0,1fr) 'source machine' minmax(0,1fr)/minmax(0,1fr) min(36.2rem,50vw)}
-@media (min-width:1500px){body.sourced{grid-template:'picture source machine' minmax(0,1fr)/minmax(0,1.2fr) minmax(0,1fr)
-36.2rem}}
-#page-picture{grid-area:picture;overflow:auto;position:relative}
-#page-picture svg{display:block}
+@media (min-width:2300px){:root:not(.big) body.sourced{
+grid-template:'picture source machine' minmax(0,1fr)/minmax(0,1fr) minmax(0,1fr) 36.2rem}}
+#page-picture{grid-area:picture;overflow:auto;position:relative;scroll-padding:70px 0 40px;
+--column:calc(6.4px*var(--digits) + 5px);--gutter:calc(2*var(--column))}
+#page-picture.narrow{--gutter:max(0px,8px*(var(--digits) - 4))}
+#page-picture>svg,#page-lanes>svg{display:block;overflow:visible;margin-left:var(--gutter);max-width:calc(100% - var(--gutter))}
+#page-picture>svg>text[x='3']{transform:translateX(calc(-1*var(--gutter)))}
+#page-picture>svg>text[x='36']{transform:translateX(calc(var(--column) - var(--gutter) - 33px))}
+#page-picture.narrow>svg,.narrow>#page-lanes>svg{min-width:0!important}
+.narrow svg .wide{display:none}
 #page-picture g[id^=step],#page-picture g:has(>.page-way){cursor:pointer}
 #page-picture p{padding:12px;max-width:40em}
-#page-lanes{position:sticky;top:0;height:44px;margin-bottom:-44px;z-index:1}
+#page-lanes{position:sticky;top:0;height:44px;margin-bottom:-44px;z-index:1;background:var(--paper)}
 #page-line{position:absolute;left:0;right:0;height:0;border-top:2px dotted #c62f1b;pointer-events:none}
 .page-at use{stroke:#c62f1b;stroke-width:2.5px}
 .page-way{stroke:transparent;stroke-width:12px;fill:none}
-.big #page-picture svg{zoom:1.5;max-width:none;background:var(--paper)}
+.big #page-picture{scroll-padding:105px 0 60px;--column:calc(7.7px*var(--digits) + 5px)}
+.big #page-picture.narrow{--gutter:max(0px,8px*(var(--digits) - 2))}
+.big #page-picture>svg,.big #page-lanes>svg{zoom:1.5;background:var(--paper)}
 .big svg text{font-size:12px}
 .big svg .dim,.big svg .ink{fill:var(--ink)}
 #page-picture .again{display:none}
@@ -43,7 +52,7 @@ body.sourced{grid-template:'picture machine' minmax(0,1fr) 'source machine' minm
 border-left:1px solid var(--rule)}
 .sourced #page-source{display:grid}
 #page-source>div:first-child{padding:4px 8px;border-bottom:1px solid var(--rule)}
-#page-text{overflow:auto;cursor:pointer}
+#page-text{overflow:auto;cursor:pointer;scroll-padding:1.4em 0}
 #page-text div{min-width:max-content;padding-right:8px}
 #page-text .at{display:inline-block;min-width:4.6em;text-align:right;padding-left:2px}
 #page-text .at b{display:inline-block;min-width:1.1em;text-align:center;margin-left:1px;color:var(--paper);border-radius:2px}
@@ -52,11 +61,13 @@ border-left:1px solid var(--rule)}
 #page-text .done{color:var(--fresh)}
 .r0{background:var(--r0)}.r1{background:var(--r1)}.r2{background:var(--r2)}.r3{background:var(--r3)}
 .r4{background:var(--r4)}.r5{background:var(--r5)}.r6{background:var(--r6)}.r7{background:var(--r7)}
-#page-machine{grid-area:machine;overflow:auto;padding:0 12px 12px;border-left:1px solid var(--rule)}
-#page-bar{position:sticky;top:0;z-index:1;padding:6px 0;background:var(--paper);border-bottom:1px solid var(--rule)}
-#page-bar div{display:flex;flex-wrap:wrap;gap:3px 4px;align-items:center;margin-bottom:3px}
-#page-said{display:block;min-height:1.3em;color:var(--fresh)}
-#page-search{flex:1;min-width:9em}
+#page-machine{grid-area:machine;overflow:auto;padding:0 12px 12px;border-left:1px solid var(--rule);scroll-padding-top:9rem}
+#page-bar{position:sticky;top:0;z-index:1;padding:6px 0;background:var(--paper);border-bottom:1px solid var(--rule);
+display:flex;flex-direction:column}
+#page-walk{display:contents}
+#page-bar .row{display:flex;flex-wrap:wrap;gap:3px 4px;align-items:center;margin-bottom:3px}
+#page-said{display:block;min-height:1.3em;color:var(--fresh);order:1}
+#page-search{flex:1;min-width:11em;box-sizing:border-box}
 #page-machine h2{font-size:.92rem;margin:10px 0 2px;color:var(--dim)}
 #page-machine h3{font-size:.85rem;margin:4px 0 0;color:var(--dim);font-weight:400}
 #page-machine pre{margin:0;white-space:pre-wrap;overflow-wrap:anywhere}
@@ -81,16 +92,23 @@ text-underline-offset:2px;text-decoration-color:var(--dim);overflow-wrap:anywher
 #page-registers i{color:var(--dim);font-style:normal}
 #page-registers b{font-weight:400}
 input,select{font:inherit;font-weight:400}
+::placeholder{color:var(--dim);opacity:1}
 .page-rows select{width:5.5em}
 input[type=number]{width:5.5em}
 #page-address{width:11em}
 button{font:inherit}
 #page-bar button{padding:1px 4px;font-size:.92rem}
-@media (max-width:900px){body{grid-template:'picture' 42vh 'machine' minmax(0,1fr)/minmax(0,1fr)}
-body.sourced{grid-template:'picture' 30vh 'source' 22vh 'machine' minmax(0,1fr)/minmax(0,1fr)}
-#page-machine{border-left:0;border-top:2px solid var(--rule);padding:0 6px 6px}}
-@media (max-width:460px){.page-code,#page-machine pre{font-size:.85rem}#page-bar{position:static}
-#page-registers{font-size:.77rem}#page-memory{font-size:.73rem}#page-registers b+i{display:none}}
+@media (max-width:900px){body{grid-template:'picture' 42% 'machine' minmax(0,1fr)/minmax(0,1fr)}
+body.sourced{grid-template:'picture' 30% 'source' 22% 'machine' minmax(0,1fr)/minmax(0,1fr)}
+#page-machine{border-left:0;border-top:2px solid var(--rule);padding:0 6px 6px;scroll-padding-top:3.5rem}
+#page-bar{display:contents}
+#page-walk{display:block;position:sticky;top:0;z-index:1;background:var(--paper);border-bottom:1px solid var(--rule);
+padding-top:3px}
+#page-walk button{flex:auto;padding:3px 0;white-space:nowrap}
+#page-said{min-height:0}}
+@media (max-width:460px){.page-code,#page-machine pre{font-size:.85rem}#page-bar button{font-size:.85rem}
+#page-bar .row{gap:3px 2px}.big #page-walk .row{display:grid;grid-template-columns:repeat(4,1fr)}
+#page-registers,#page-memory{font-size:.77rem}#page-registers b+i{display:none}}
 </style>
 <div id=page-picture>
 <div id=page-lanes></div>
@@ -108,39 +126,42 @@ pub(crate) const BODY: &str = "\
 </div>
 <section id=page-source>
 <div><select id=page-file title='the source in view'></select>
-<button id=page-last-stop title='back to a breakpoint (C)'>&lt; breakpoint</button>
-<button id=page-next-stop title='on to a breakpoint (c); a click on a line sets one'>breakpoint &gt;</button></div>
+<button id=page-last-stop title='to the previous breakpoint (C)'>&lt; breakpoint</button>
+<button id=page-next-stop title='to the next breakpoint (c); a click on a line sets one'>breakpoint &gt;</button></div>
 <div id=page-text class=page-code></div>
 </section>
 <main id=page-machine>
 <div id=page-bar>
-<div>
-<button id=page-home title='to the first place (Home)'>start</button>
-<button id=page-last-mark title='to the last mark (Shift and left)'>&lt; mark</button>
-<button id=page-last-line title='to the last line (p)'>&lt; line</button>
+<div id=page-walk>
+<div class=row>
+<button id=page-home title='to the start (Home)'>start</button>
+<button id=page-last-mark title='to the previous mark (Shift and left)'>&lt; mark</button>
+<button id=page-last-line title='to the previous line (p)'>&lt; line</button>
 <button id=page-back title='one step back (left)'>&lt; step</button>
 <button id=page-step title='one step (right)'>step &gt;</button>
 <button id=page-next-line title='to the next line (n)'>line &gt;</button>
 <button id=page-next-mark title='to the next mark (Shift and right)'>mark &gt;</button>
-<button id=page-end title='to the last place (End)'>end</button>
+<button id=page-end title='to the end (End)'>end</button>
 </div>
-<div>
+<output id=page-said></output>
+</div>
+<div class=row>
 <label>steps done <input id=page-place type=number></label> <span id=page-range></span>
 <button id=page-play title='play, or pause (space)'>play</button>
 <select id=page-unit title='what is played'><option>marks<option>lines<option>steps</select>
 <select id=page-speed title='how many a second'><option value=1>1/s<option value=3 selected>3/s<option value=10>10/s<option
  value=30>30/s</select>
 </div>
-<div>
-<input id=page-search list=page-search-known placeholder='search: a line, a function, tag 1 (/)'>
+<div class=row>
+<input id=page-search list=page-search-known placeholder='line, name, tag 1 (/)'
+ title='search: a line, as 24, a function, an address, a tag, as tag 1, or a word of a mark'>
 <datalist id=page-search-known></datalist>
-<button id=page-last-hit title='the last one before this place (Shift and Enter)'>&lt;</button>
+<button id=page-last-hit title='the previous one (Shift and Enter)'>&lt;</button>
 <button id=page-next-hit title='the next one (Enter)'>&gt;</button>
 <label title='lines, breakpoints and searches of the rank in view alone'><input id=page-only type=checkbox>this rank</label>
-<button id=page-other-end title='to the other end of the message that was sent or got last (m)'>message</button>
+<button id=page-other-end title='to the other end of the message that this step sent or received (m)'>message</button>
 <button id=page-enlarge title='large letters, high contrast (+)'>projector</button>
 </div>
-<output id=page-said></output>
 </div>
 <div id=page-told-step></div>
 <div id=page-step-ways-head hidden><h2>got by this step</h2></div><div id=page-step-ways></div>
@@ -149,7 +170,8 @@ pub(crate) const BODY: &str = "\
 <h2>output so far</h2><div id=page-outputs></div>
 <h2>calls of <span id=page-whose></span></h2><div id=page-calls></div>
 <h2>values of <span id=page-whose-values></span> <input id=page-watch list=page-watch-known
- placeholder='watch a name, an address (w)'></h2><datalist id=page-watch-known></datalist>
+ placeholder='watch a name (w)' title='a name, an address, or an address and a size, as 0x8470,8'></h2>
+<datalist id=page-watch-known></datalist>
 <div id=page-watches class=page-rows></div><div id=page-values class=page-rows></div>
 <details id=page-others><summary>other names</summary><div id=page-other-values class=page-rows></div></details>
 <h2><label>memory of the rank at <input id=page-address value=0x0 list=page-names-known></label>

@@ -1,18 +1,18 @@
 //! The text of a page.
 
-ghost use Rattle.std.specs.Prelude.{◌≡◌, ◌++◌, IfOk, OnOk};
+ghost use Rattle.std.specs.Prelude.{◌≡◌, ◌++◌, OnOk};
 ghost use Rattle.std.specs.List.{flat_map};
-ghost use Rattle.rvmc_page.specs.Pages.{awaited_text, data_of, page_of, part_name as name_of, part_lines, parts, picture_text};
-ghost use Rattle.rvmc_page.specs.Pages.{ways_text, told_lines};
+ghost use Rattle.rvmc_page.specs.Pages.{awaited_text, before_steps, behind_steps, data_of, last_parts, part_lines};
+ghost use Rattle.rvmc_page.specs.Pages.{part_name as name_of, picture_text, steps_opening, told_lines, ways_text};
 
 use crate::frame::{BODY, FOOT, HEAD, NO_PICTURE};
 use crate::script::SCRIPT;
+use crate::show::SHOW;
 use crate::starts::put_starts;
-use crate::steps::put_changes;
 use crate::texts::{SourceText, put_texts};
 use crate::told::{put_arrows, put_names, put_program, put_told, put_waits};
 use rv_image_types::Image;
-use rvmc_changes::Walk;
+use rvmc_changes::RankStart;
 use rvmc_draw::Drawing;
 use std::alloc::Global;
 use std::io;
@@ -26,12 +26,13 @@ pub struct Shown {
     pub picture: Vec<u8>,
 }
 
-/// What a page shows of a record.
+/// What a page shows of a record, but for what each step changed, which is written as the steps are done.
 #[derive(Drop)]
 pub struct Page<'a> {
     /// The first place.
     pub from: u64,
-    pub walk: Walk,
+    /// What is seen of each rank there.
+    pub start: Vec<RankStart>,
     /// The sources.
     pub texts: &'a [SourceText<'a>],
     /// None where the steps have more marks than a picture may have.
@@ -45,8 +46,6 @@ pub enum Part {
     First,
     /// The machine there.
     Start,
-    /// What each step changed.
-    Steps,
     /// The program.
     Program,
     /// Its symbols.
@@ -68,7 +67,6 @@ fn part_name(part: Part) -> &'static str
     match part {
         Part::First => "first",
         Part::Start => "start",
-        Part::Steps => "steps",
         Part::Program => "program",
         Part::Names => "names",
         Part::Texts => "texts",
@@ -123,8 +121,7 @@ fn put_data(
             let from = page.from;
             write!(text, "{from}\n")
         }
-        Part::Start => put_starts(text, page.walk.start.as_slice()),
-        Part::Steps => put_changes(text, page.walk.changes.as_slice()),
+        Part::Start => put_starts(text, page.start.as_slice()),
         Part::Program => put_program(alloc, text, image),
         Part::Names => put_names(text, image.parts().symbols.as_slice()),
         Part::Texts => put_texts(text, page.texts),
@@ -169,24 +166,6 @@ fn put_these(
     Ok(())
 }
 
-/// Adds all parts, in their order.
-fn put_parts(alloc: Global, text: &mut Vec<u8>, image: &Image, page: &Page<'_>) -> io::Result<()>
-    ensures { OnOk result (text.new.items ≡ text.old.items ++ flat_map (part_lines image.now page.now) parts) }
-{
-    let parts = [
-        Part::First,
-        Part::Start,
-        Part::Steps,
-        Part::Program,
-        Part::Names,
-        Part::Texts,
-        Part::Ways,
-        Part::Waits,
-        Part::Told,
-    ];
-    put_these(alloc, text, image, page, &parts)
-}
-
 /// Adds the picture, or that there is none.
 fn put_picture(text: &mut Vec<u8>, shown: &Option<Shown>) -> io::Result<()>
     ensures { OnOk result (text.new.items ≡ text.old.items ++ picture_text shown.now) }
@@ -198,16 +177,59 @@ fn put_picture(text: &mut Vec<u8>, shown: &Option<Shown>) -> io::Result<()>
     Ok(())
 }
 
-/// The text of a page of an image's record. The only error is want of memory.
-pub fn page_text(alloc: Global, image: &Image, page: &Page<'_>) -> io::Result<Vec<u8>>
-    ensures { IfOk result (λ text. text.items ≡ page_of image.now page.now) }
+/// Adds what stands right before the changes of the steps.
+fn open_steps(text: &mut Vec<u8>) -> io::Result<()>
+    ensures { OnOk result (text.new.items ≡ text.old.items ++ steps_opening) }
 {
-    let mut text = Vec::new(alloc);
+    text.extend_from_slice(b"<div hidden id=page-steps><!--")?;
+    Ok(())
+}
+
+/// Adds what stands before the changes of the steps.
+pub(crate) fn put_before(
+    alloc: Global,
+    text: &mut Vec<u8>,
+    image: &Image,
+    page: &Page<'_>,
+) -> io::Result<()>
+    ensures { OnOk result (text.new.items ≡ text.old.items ++ before_steps image.now page.now) }
+{
     text.extend_from_slice(HEAD.as_bytes())?;
-    put_picture(&mut text, &page.shown)?;
+    put_picture(text, &page.shown)?;
     text.extend_from_slice(BODY.as_bytes())?;
-    put_parts(alloc, &mut text, image, page)?;
+    put_these(alloc, text, image, page, &[Part::First, Part::Start])?;
+    open_steps(text)?;
+    Ok(())
+}
+
+/// Adds the parts that stand behind them.
+fn put_last(alloc: Global, text: &mut Vec<u8>, image: &Image, page: &Page<'_>) -> io::Result<()>
+    ensures { OnOk result (text.new.items ≡ text.old.items ++ flat_map (part_lines image.now page.now) last_parts) }
+{
+    let parts = [
+        Part::Program,
+        Part::Names,
+        Part::Texts,
+        Part::Ways,
+        Part::Waits,
+        Part::Told,
+    ];
+    put_these(alloc, text, image, page, &parts)
+}
+
+/// Adds what stands behind the changes of the steps.
+pub(crate) fn put_behind(
+    alloc: Global,
+    text: &mut Vec<u8>,
+    image: &Image,
+    page: &Page<'_>,
+) -> io::Result<()>
+    ensures { OnOk result (text.new.items ≡ text.old.items ++ behind_steps image.now page.now) }
+{
+    text.extend_from_slice(b"--></div>\n")?;
+    put_last(alloc, text, image, page)?;
     text.extend_from_slice(SCRIPT.as_bytes())?;
+    text.extend_from_slice(SHOW.as_bytes())?;
     text.extend_from_slice(FOOT.as_bytes())?;
-    Ok(text)
+    Ok(())
 }

@@ -1,28 +1,30 @@
 //! The page of a record.
 
-ghost use Rattle.std.specs.Prelude.{◌≡◌, ◌≤◌, ◌||◌, IfErr, IfOk, false, length, map, nat_lt};
+ghost use Rattle.std.specs.Prelude.{◌≡◌, ◌≤◌, ◌||◌, [], IfErr, IfOk, OnOk, false, length, map, nat_lt, true};
 ghost use Rattle.std.specs.List.{All};
-ghost use Rattle.rvmc_changes.specs.Walks.{IsWalk};
-ghost use Rattle.rvmc_page.specs.Records.{IsPage, IsPageOf, IsShownOf, PageFaultHolds, count_in, steps_max};
+ghost use Rattle.rvmc_changes.specs.Below.{IsRunUpTo};
+ghost use Rattle.rvmc_changes.specs.Walking.{HasCome};
+ghost use Rattle.rvmc_changes.specs.Walks.{seen_at_start};
+ghost use Rattle.rvmc_page.specs.Records.{IsShownOf, PageFaultHolds};
 ghost use Rattle.rvmc_page.specs.Texts.{source_of};
+ghost use Rattle.rvmc_page.specs.Written.{IsPageWritten, LeavesPage};
 ghost use Rattle.rvmc_page.specs.declared.records.PageFault.TheVariants as faults;
 ghost use Rattle.rvmc_picture.specs.Pictures.{is_past_end as is_past_of, view_of as view_in};
 ghost use Rattle.rvmc_svg.specs.Safe.{IsAllowed};
 ghost use Rattle.rvmc_svg.specs.Shown.{IsShown};
 
-use crate::pages::{Page, Shown, page_text};
+use crate::pages::{Page, Shown};
 use crate::texts::SourceText;
+use crate::writing::put_page;
 use cl_machine::Step;
 use rv_image_types::Image;
-use rvmc_changes::{Walk, WalkFault, walk};
+use rvmc_changes::{Walk, WalkFault, begin};
 use rvmc_draw::Drawing;
 use rvmc_picture::{DrawFault, drawing};
 use rvmc_svg::svg;
 use std::alloc::{AllocError, Global};
 use std::io;
-
-/// The most steps of a page.
-pub const STEPS_MAX: u64 = 200_000;
+use std::io::Write;
 
 /// Why there is no page.
 #[derive(Clone, Copy, Drop)]
@@ -31,9 +33,7 @@ pub enum PageFault {
     PastEnd(u64),
     /// 2: the machine has no such step where the steps before it lead. Carries its number, from 0.
     NotARun(u64),
-    /// 3: there are more than 200,000 steps from the one place to the other. Carries how many there are.
-    TooMany(u64),
-    /// 4: memory was refused.
+    /// 3: memory was refused.
     Memory,
 }
 
@@ -72,7 +72,7 @@ fn pictured(alloc: Global, drawing: Drawing) -> Result<Shown, PageFault>
     Ok(Shown { drawing, picture })
 }
 
-/// The picture of the steps, unless they have too many marks.
+/// The picture of the steps, unless they have too many marks. All steps of the record are then a run.
 fn shown_of(
     alloc: Global,
     image: &Image,
@@ -80,9 +80,9 @@ fn shown_of(
     from: u64,
     to: Option<u64>,
 ) -> Result<Option<Shown>, PageFault>
-    requires few { count_in (view_in from to steps.now) ≤ steps_max }
     requires there { is_past_of (view_in from to steps.now) steps.now ≡ false }
     ensures is { IfOk result (IsShownOf image.now steps.now (view_in from to steps.now)) }
+    ensures run { OnOk result (IsRunUpTo image.now steps.now (length steps.now)) }
     ensures fault { IfErr result (PageFaultHolds image.now steps.now (view_in from to steps.now)) }
 {
     match drawing(alloc, image, steps, from, to) {
@@ -97,76 +97,54 @@ fn shown_of(
     }
 }
 
-/// The walk through the steps.
-fn walked(
-    alloc: Global,
-    image: &Image,
-    steps: &[Step],
-    from: u64,
-    to: Option<u64>,
-) -> Result<Walk, PageFault>
-    requires few { count_in (view_in from to steps.now) ≤ steps_max }
-    ensures is { IfOk result (IsWalk image.now steps.now from (view_in from to steps.now).to) }
-    ensures fault { IfErr result (PageFaultHolds image.now steps.now (view_in from to steps.now)) }
+/// The walk that begins at a place, of steps of which all up to there are a run.
+fn begun(alloc: Global, image: &Image, steps: &[Step], from: u64) -> Result<Walk, PageFault>
+    requires there { from ≤ length steps.now }
+    requires run { IsRunUpTo image.now steps.now (length steps.now) }
+    ensures walk { IfOk result (λ walk. HasCome image.now steps.now from from (seen_at_start walk.start.items) [] walk.state) }
+    ensures fault { IfErr result (λ fault. fault ≡ faults.Memory) }
 {
-    match walk(alloc, image, steps, from, to) {
+    match begin(alloc, image, steps, from) {
         Ok(walk) => Ok(walk),
-        Err(WalkFault::PastEnd(len)) => Err(PageFault::PastEnd(len)),
-        Err(WalkFault::NotARun(n)) => Err(PageFault::NotARun(n)),
         Err(WalkFault::Memory) => Err(PageFault::Memory),
+        Err(WalkFault::NotARun(_)) => unreachable!(),
     }
 }
 
-/// What a page shows of the steps from one place to another.
-fn shown_page<'a>(
-    alloc: Global,
-    image: &Image,
-    steps: &[Step],
-    from: u64,
-    to: Option<u64>,
-    texts: &'a [SourceText<'a>],
-) -> Result<Page<'a>, PageFault>
-    requires few { count_in (view_in from to steps.now) ≤ steps_max }
-    requires there { is_past_of (view_in from to steps.now) steps.now ≡ false }
-    ensures is { IfOk result
-        (IsPageOf image.now steps.now (view_in from to steps.now) (map source_of texts.now)) }
-    ensures fault { IfErr result (PageFaultHolds image.now steps.now (view_in from to steps.now)) }
-{
-    let shown = shown_of(alloc, image, steps, from, to)?;
-    let walk = walked(alloc, image, steps, from, to)?;
-    Ok(Page {
-        from,
-        walk,
-        texts,
-        shown,
-    })
-}
-
-/// A record as a page: the steps from one place to another, or else to the end, at most 200,000, and these sources.
+/// Writes a record as a page: the steps from one place to another, or else to the end, and these sources. Says whether the
+/// writer took all of it.
 ///
-/// Refusals, in this order: PastEnd where a place is behind the last step; TooMany; NotARun where a step of the record is none
-/// of the machine; Memory.
-pub fn page<'a>(
+/// The changes of the steps are written in pieces of 65,536 bytes or some more, so of a long record they never stand in
+/// memory as a whole. The drawing has done all steps before, so nothing is written where they are no run.
+///
+/// Refusals, in this order: PastEnd where a place is behind the last step; NotARun where a step of the record is none of the
+/// machine; Memory, and then a beginning of the text may stand at the writer.
+pub fn page<'a, W: Write>(
     alloc: Global,
     image: &Image,
     steps: &[Step],
     from: u64,
     to: Option<u64>,
     texts: &'a [SourceText<'a>],
-) -> Result<Vec<u8>, PageFault>
-    ensures is { IfOk result (λ text.
-        IsPage image.now steps.now (view_in from to steps.now) (map source_of texts.now) text.items) }
+    out: &mut W,
+) -> Result<bool, PageFault>
+    ensures page { IfOk result (λ taken. taken ≡ true → IsPageWritten image.now steps.now (view_in from to steps.now)
+        (map source_of texts.now) (W.contents out.old) (W.contents out.new)) }
     ensures fault { IfErr result (PageFaultHolds image.now steps.now (view_in from to steps.now)) }
+    ensures left { IfErr result (λ fault. LeavesPage image.now steps.now (view_in from to steps.now)
+        (map source_of texts.now) fault (W.contents out.old) (W.contents out.new)) }
 {
     let last = to.unwrap_or(steps.len() as u64);
     if is_past(from, last, steps) {
         return Err(PageFault::PastEnd(steps.len() as u64));
     }
-    let count = last.saturating_sub(from);
-    if count > STEPS_MAX {
-        return Err(PageFault::TooMany(count));
-    }
-    let page = shown_page(alloc, image, steps, from, to, texts)?;
-    let text = page_text(alloc, image, &page)?;
-    Ok(text)
+    let shown = shown_of(alloc, image, steps, from, to)?;
+    let Walk { start, mut state } = begun(alloc, image, steps, from)?;
+    let page = Page {
+        from,
+        start,
+        texts,
+        shown,
+    };
+    put_page(alloc, image, steps, &page, last, &mut state, out)
 }

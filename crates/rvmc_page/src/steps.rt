@@ -2,6 +2,8 @@
 
 ghost use Rattle.std.specs.Prelude.{◌≡◌, ◌++◌, OnOk};
 ghost use Rattle.std.specs.List.{flat_map};
+ghost use Rattle.rvmc_changes.specs.Given.{difference_in};
+ghost use Rattle.rvmc_changes.specs.Given.{differences};
 ghost use Rattle.rvmc_page.specs.Steps.{changed_byte, change_text, changes_text, change_head, put_text, changed_register};
 
 use crate::safe::put_bytes;
@@ -61,7 +63,7 @@ fn put_output(text: &mut Vec<u8>, bytes: &[u8]) -> io::Result<()>
 
 /// Adds where the hart of a step stood, and where it stands.
 fn put_head(text: &mut Vec<u8>, change: &Change) -> io::Result<()>
-    ensures { OnOk result (text.new.items ≡ text.old.items ++ change_head change.now) }
+    ensures { OnOk result (text.new.items ≡ text.old.items ++ change_head (difference_in change.now)) }
 {
     let Change { rank, hart, .. } = change;
     write!(text, "{rank} {hart} ")?;
@@ -73,7 +75,7 @@ fn put_head(text: &mut Vec<u8>, change: &Change) -> io::Result<()>
 /// Adds a step.
 #[tactic(auto, unfolding(crate::specs::Steps::change_text))]
 fn put_change(text: &mut Vec<u8>, change: &Change) -> io::Result<()>
-    ensures { OnOk result (text.new.items ≡ text.old.items ++ change_text change.now) }
+    ensures { OnOk result (text.new.items ≡ text.old.items ++ change_text (difference_in change.now)) }
 {
     put_head(text, change)?;
     put_registers(text, change.registers.as_slice())?;
@@ -85,7 +87,7 @@ fn put_change(text: &mut Vec<u8>, change: &Change) -> io::Result<()>
 
 /// Adds all steps.
 pub(crate) fn put_changes(text: &mut Vec<u8>, changes: &[Change]) -> io::Result<()>
-    ensures { OnOk result (text.new.items ≡ text.old.items ++ changes_text changes.now) }
+    ensures { OnOk result (text.new.items ≡ text.old.items ++ changes_text (differences changes.now)) }
 {
     for change in changes {
         put_change(text, change)?;

@@ -11,3 +11,4 @@ mod pictures;
 mod walking;
 
 pub use pictures::{DrawFault, arrows, drawing};
+pub use rvmc_sights::put_piece;

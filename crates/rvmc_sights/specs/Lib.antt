@@ -2,6 +2,7 @@ pub mod Arguments
 pub mod Instructions
 pub mod Gave
 pub mod Lines
+pub mod Pieces
 pub mod Seen
 pub mod Sights
 pub mod Rows

@@ -7,8 +7,10 @@ mod arguments;
 mod gave;
 mod instructions;
 mod lines;
+mod pieces;
 mod rows;
 
 pub use ahead::{Ahead, ahead_of, put_rest};
 pub use gave::{BoxNumber, is_refused};
 pub use lines::{After, Seen, box_in, look, look_again, put_head, put_sight};
+pub use pieces::put_piece;

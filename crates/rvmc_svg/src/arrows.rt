@@ -184,7 +184,7 @@ fn put_line(text: &mut Vec<u8>, arrow: &Arrow, line: &Line) -> io::Result<()> {
 
 /// The number of a step that isn't shown, at the border beside an arrow's end.
 const NUMBER: &str =
-    "<text class=\"dim halo\" font-size=\"9\" dx=\"5\" x=\"{}\" y=\"{}\">{}</text>";
+    "<text class=\"dim halo\" font-size=\"10\" dx=\"5\" x=\"{}\" y=\"{}\">{}</text>";
 
 /// Adds what stands behind an arrow's title: its line, and the numbers at the border.
 fn put_drawn(text: &mut Vec<u8>, layout: &Layout<'_>, arrow: &Arrow) -> io::Result<()> {
@@ -333,7 +333,7 @@ fn put_label(
         if places.take(at.saturating_sub(width / 2), width, row)? {
             return put(
                 text,
-                "<text class=\"f{} halo wide\" font-size=\"9.5\" text-anchor=\"middle\" x=\"{}\" y=\"{}\">t{} {}B</text>\n",
+                "<text class=\"f{} halo wide\" font-size=\"10\" text-anchor=\"middle\" x=\"{}\" y=\"{}\">t{} {}B</text>\n",
                 &[
                     Rank(rank),
                     Across(at),
@@ -393,7 +393,7 @@ fn put_lost(text: &mut Vec<u8>, places: &mut Places, line: &Line, arrow: &Arrow)
         if places.take(left, width, row)? {
             return put(
                 text,
-                "<text class=\"f{} halo wide\" font-size=\"9.5\" text-anchor=\"{}\" dx=\"{}\" x=\"{}\" y=\"{}\">to {}: not got</text>\n",
+                "<text class=\"f{} halo wide\" font-size=\"10\" text-anchor=\"{}\" dx=\"{}\" x=\"{}\" y=\"{}\">to {}: not got</text>\n",
                 &[
                     Rank(arrow.from.rank),
                     Words(anchor),

@@ -112,7 +112,7 @@ pub(crate) fn put_rows(text: &mut Vec<u8>, drawing: &Drawing, from: u64) -> io::
     if !drawing.rows.is_empty() {
         put(
             text,
-            "<text class=\"dim\" font-size=\"9\" x=\"3\" y=\"{}\">waits for</text>\n",
+            "<text class=\"dim\" font-size=\"10\" x=\"3\" y=\"{}\">waits for</text>\n",
             &[Number(down.saturating_add(3))],
         )?;
     }

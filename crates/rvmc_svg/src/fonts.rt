@@ -11,10 +11,10 @@ svg{max-width:100%;background:#fff}
 .a{fill:none;stroke-width:1.4}.thin{stroke-width:.9}.far{stroke-dasharray:1.5 3.5}.lost{stroke-dasharray:4 2}
 .claim{stroke-dasharray:1 3}.part{stroke-width:.7}.ribbon{opacity:.13}
 g:hover>.a{stroke-width:3}.bold{font-weight:600}
-.s0{stroke:#0072b2}.s1{stroke:#d55e00}.s2{stroke:#009e73}.s3{stroke:#a6518a}
-.s4{stroke:#8a6d00}.s5{stroke:#3b8fc4}.s6{stroke:#7a4a00}.s7{stroke:#555}
-.f0{fill:#0072b2}.f1{fill:#d55e00}.f2{fill:#009e73}.f3{fill:#a6518a}
-.f4{fill:#8a6d00}.f5{fill:#3b8fc4}.f6{fill:#7a4a00}.f7{fill:#555}
+.s0{stroke:#0072b2}.s1{stroke:#b34e00}.s2{stroke:#007a58}.s3{stroke:#a6518a}
+.s4{stroke:#8a6d00}.s5{stroke:#2b76a5}.s6{stroke:#7a4a00}.s7{stroke:#555}
+.f0{fill:#0072b2}.f1{fill:#b34e00}.f2{fill:#007a58}.f3{fill:#a6518a}
+.f4{fill:#8a6d00}.f5{fill:#2b76a5}.f6{fill:#7a4a00}.f7{fill:#555}
 @media (prefers-color-scheme:dark){
 svg{background:#16181b}
 .ink{fill:#e8e8e8}.dim{fill:#a6a6a6}.lane{stroke:#555}.band{fill:#fff;opacity:.04}.halo{stroke:#16181b}

@@ -142,7 +142,7 @@ pub(crate) fn put_count(
     }
     put(
         text,
-        "<text class=\"dim halo wide\" font-size=\"9\" dx=\"-7\" text-anchor=\"end\" x=\"{}\" y=\"{}\">{} {}</text>\n",
+        "<text class=\"dim halo wide\" font-size=\"10\" dx=\"-7\" text-anchor=\"end\" x=\"{}\" y=\"{}\">{} {}</text>\n",
         &[Across(at), Number(row), Number(count), Words(these)],
     )
 }
@@ -264,7 +264,7 @@ pub(crate) fn put_places(text: &mut Vec<u8>, layout: &Layout<'_>) -> io::Result<
         let down = row.saturating_add(3);
         put(
             text,
-            "<text class=\"{}\" font-size=\"9\" x=\"{}\" y=\"{}\">{}</text>\n",
+            "<text class=\"{}\" font-size=\"10\" x=\"{}\" y=\"{}\">{}</text>\n",
             &[
                 Words(class),
                 Number(across),

@@ -84,7 +84,7 @@ fn put_lanes(text: &mut Vec<u8>, drawing: &Drawing, rank: u8, foot: u64) -> io::
         if drawing.harts > 1 {
             put(
                 text,
-                "<text class=\"dim\" font-size=\"9\" text-anchor=\"middle\" x=\"{}\" y=\"38\"><tspan class=\"wide\">hart </tspan>{}</text>\n",
+                "<text class=\"dim\" font-size=\"10\" text-anchor=\"middle\" x=\"{}\" y=\"38\"><tspan class=\"wide\">hart </tspan>{}</text>\n",
                 &[at, Hart(hart)],
             )?;
         }

@@ -1,5 +1,7 @@
 pub mod Fitting
+pub mod Left
 pub mod Lists
+pub mod Pages
 pub mod Places
 pub mod Reading
 pub mod Readings

@@ -1,20 +1,16 @@
 -- What is told of a fault of `list` is true of the record, and what `list` leaves is told of the bytes that spell it.
 use Rattle.std.proofs.Common.{◌≡◌, ℕ, List, inl, inr, refl}
 use Rattle.std.specs.Prelude.{Bool, Ok, Option}
-use Rattle.std.proofs.KnownBytes.{Keeps-refl}
 use Rattle.cl_machine.specs.declared.steps.Step.{Step}
 use Rattle.cl_text.specs.Reading.{reading_record}
 use Rattle.rv_image_types.specs.declared.images.ImageParts.{ImageParts}
-use Rattle.rvmc_line.specs.declared.line.RecordCommand.{RecordCommand}
 use Rattle.rvmc_line.specs.declared.line.RecordCommand.TheVariants as command
 use Rattle.rvmc_list.specs.List.{IsList, ListFaultHolds}
 use Rattle.rvmc_list.specs.Written.{IsWritten, Leaves}
 use Rattle.rvmc_list.specs.declared.folding.Wanted.{Wanted}
 use Rattle.rvmc_list.specs.declared.walk.ListFault.{ListFault}
 use Rattle.rvmc_list.specs.declared.walk.ListFault.TheVariants as list
-use Rattle.rvmc_report.specs.declared.faults.Fault.{Fault}
-use Rattle.rvmc_report.specs.declared.faults.Fault.TheVariants as faults
-use Rattle.rvmc_tool.specs.Lists.{IsListed, LeavesList, list_of}
+use Rattle.rvmc_tool.specs.Made.{IsMade, LeavesPieces, list_of}
 use Rattle.rvmc_tool.specs.Making.{IsStepsFault, fault_of_list}
 use Rattle.rvmc_tool.specs.Records.{SaysOfRecord, counted_of, wanted_of}
 use Rattle.rvmc_tool.specs.declared.answers.End.TheVariants.{Status}
@@ -45,7 +41,7 @@ says_list wanted bytes image steps text read lists =
 
 pub listed : (wanted : Wanted) (bytes : List ℕ) (image : ImageParts) (steps : List Step) (old new : Option (List ℕ))
     → reading_record bytes ≡ Ok (image, steps) → IsWritten image steps wanted old new
-    → IsListed (list_of wanted) bytes old new
+    → IsMade (list_of wanted) bytes old new
 listed wanted bytes image steps old new read is = record {
   text = is.text;
   says = says_list wanted bytes image steps is.text read is.list;
@@ -55,7 +51,7 @@ listed wanted bytes image steps old new read is = record {
 -- and so is what is left by a fault
 pub left : (wanted : Wanted) (bytes : List ℕ) (image : ImageParts) (steps : List Step) (fault : ListFault)
     (old new : Option (List ℕ)) → reading_record bytes ≡ Ok (image, steps) → Leaves image steps wanted fault old new
-    → LeavesList (list_of wanted) bytes (fault_of_list fault) old new
+    → LeavesPieces (list_of wanted) bytes (fault_of_list fault) old new
 left wanted bytes image steps list.NoRank old new read keeps = keeps
 left wanted bytes image steps (list.PastEnd n) old new read keeps = keeps
 left wanted bytes image steps (list.NotARun n) old new read keeps = keeps
@@ -67,9 +63,3 @@ left wanted bytes image steps list.Memory old new read (inr begun) = inr (record
   begins = begun.begins;
   there = begun.there;
 })
-
--- a fault of the record leaves nothing
-pub unread_left : (command : RecordCommand) (bytes : List ℕ) (fault : Fault) (known : Option (List ℕ))
-    → LeavesList command bytes fault known known
-unread_left command bytes faults.Memory known = inl (Keeps-refl known)
-unread_left command bytes other known = Keeps-refl known

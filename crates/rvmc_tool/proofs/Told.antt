@@ -1,6 +1,6 @@
 -- What stands on the output is what the command line says of the bytes.
 use Rattle.std.proofs.Common.{◌≡◌, ◌≤◌, ℕ, ◌∙◌, List, [], Option, Some, None, ap, length, inl, inr, refl, sym, subst, append-nil}
-use Rattle.std.specs.Prelude.{◌⊎◌, IfOk, IfErr, IfSome, MatchResult, Result, Ok, Err}
+use Rattle.std.specs.Prelude.{◌⊎◌, IfOk, IfErr, IfSome, MatchResult, Result, Ok, Err, true}
 use Rattle.std.specs.Io.KnownBytes.{Appends, Keeps}
 use Rattle.cl_machine.specs.declared.steps.Step.{Step}
 use Rattle.cl_text.specs.Reading.{reading_record}
@@ -11,7 +11,6 @@ use Rattle.rvmc_line.specs.declared.line.CommandLine.TheVariants.{Join, OfImage,
 use Rattle.rvmc_line.specs.declared.line.ImageCommand.{ImageCommand}
 use Rattle.rvmc_line.specs.declared.line.ImageCommand.TheVariants.{Explore, ExploreFrom, One, OneUntilStuck, Run, RunUntilStuck, Split}
 use Rattle.rvmc_line.specs.declared.line.RecordCommand.{RecordCommand}
-use Rattle.rvmc_list.specs.declared.folding.Wanted.{Wanted}
 use Rattle.rvmc_report.specs.Faults.{fault_status}
 use Rattle.rvmc_report.specs.declared.faults.ExploreRefusal.{ExploreRefusal}
 use Rattle.rvmc_report.specs.declared.faults.ExploreRefusal.TheVariants as refusals
@@ -24,10 +23,10 @@ use Rattle.rvmc_tool.specs.Images.{image_in}
 use Rattle.rvmc_tool.specs.Making.{IsFaultOf, IsMisplanned, IsReadFault, IsUnexplored, RefusesImage}
 use Rattle.rvmc_tool.specs.Outputs.{output_bytes}
 use Rattle.rvmc_tool.specs.Plans.{listed}
-use Rattle.rvmc_tool.specs.Records.{SaysOfSteps, part_behind, record_part}
+use Rattle.rvmc_tool.specs.Records.{SaysOfSteps, is_in_pieces, part_behind, record_part}
 use Rattle.rvmc_tool.specs.Taking.{IsFaultIn}
 use Rattle.rvmc_tool.specs.declared.answers.Answer.{Answer}
-use Rattle.rvmc_tool.specs.Lists.{LeavesList, TellsList, list_of}
+use Rattle.rvmc_tool.specs.Made.{LeavesPieces, TellsPieces}
 use Rattle.rvmc_tool.specs.Tool.{Answers, IsCutShort, IsRefused, IsSaid, IsUnlike}
 use Rattle.rvmc_tool.specs.Plain.{IsWhole, Tells}
 
@@ -157,43 +156,45 @@ obeyed line known bytes taken whole answer status old new is has same says fault
     subst (λ (b : List ℕ). Answers line b status old new) (same ∙ all)
     (answered line whole answer status old new short says fault tells)
 
--- a list, whole or cut short, or the fault in its place
-listed_so : (wanted : Wanted) (bytes : List ℕ) (status : ℕ) (old new : Option (List ℕ)) → length bytes ≤ 67108864
-    → TellsList (list_of wanted) bytes status old new → Answers (OfRecord (list_of wanted)) bytes status old new
-listed_so wanted bytes status old new short tells = go tells
-  where
-    nothing : (fault : Fault) → IsReadFault (list_of wanted) (reading_record bytes) fault → status ≡ fault_status fault
-        → Keeps old new → Answers (OfRecord (list_of wanted)) bytes status old new
-    nothing fault is status_is keeps =
-        answered (OfRecord (list_of wanted)) bytes (Err fault) status old new short tt is (status_is, keeps)
+-- what is written in pieces, whole or cut short, or the fault in its place
+module _ (command : RecordCommand) (pieces : is_in_pieces command ≡ true) where
+  pieces_so : (bytes : List ℕ) (status : ℕ) (old new : Option (List ℕ)) → length bytes ≤ 67108864
+      → TellsPieces command bytes status old new → Answers (OfRecord command) bytes status old new
+  pieces_so bytes status old new short tells = go tells
+    where
+      nothing : (fault : Fault) → IsReadFault command (reading_record (record_part command bytes)) fault
+          → status ≡ fault_status fault → Keeps old new → Answers (OfRecord command) bytes status old new
+      nothing fault is status_is keeps =
+          answered (OfRecord command) bytes (Err fault) status old new short tt is (status_is, keeps)
 
-    by : (fault : Fault) → IsReadFault (list_of wanted) (reading_record bytes) fault → status ≡ fault_status fault
-        → LeavesList (list_of wanted) bytes fault old new → Answers (OfRecord (list_of wanted)) bytes status old new
-    by faults.Memory is status_is (inl keeps) = nothing faults.Memory is status_is keeps
-    by faults.Memory is status_is (inr begun) = (
-      begun.front,
-      inr (inr (status_is, begun.text, record { short = λ _. short; says = inl begun.says }, begun.begins)),
-      begun.there,
-    )
-    by other is status_is keeps = nothing other is status_is keeps
+      by : (fault : Fault) → IsReadFault command (reading_record (record_part command bytes)) fault
+          → status ≡ fault_status fault → LeavesPieces command bytes fault old new
+          → Answers (OfRecord command) bytes status old new
+      by faults.Memory is status_is (inl keeps) = nothing faults.Memory is status_is keeps
+      by faults.Memory is status_is (inr begun) = (
+        begun.front,
+        inr (inr (pieces, status_is, begun.text, record { short = λ _. short; says = inl begun.says }, begun.begins)),
+        begun.there,
+      )
+      by other is status_is keeps = nothing other is status_is keeps
 
-    go : TellsList (list_of wanted) bytes status old new → Answers (OfRecord (list_of wanted)) bytes status old new
-    go (inl (done, all)) = (
-      all.text,
-      inl (record {
-        short = λ _. short;
-        says = inl (subst (λ s. Says (OfRecord (list_of wanted)) bytes all.text s) (sym done) all.says);
-      }),
-      all.there,
-    )
-    go (inr (fault, is, status_is, left)) = by fault is status_is left
+      go : TellsPieces command bytes status old new → Answers (OfRecord command) bytes status old new
+      go (inl (done, all)) = (
+        all.text,
+        inl (record {
+          short = λ _. short;
+          says = inl (subst (λ s. Says (OfRecord command) bytes all.text s) (sym done) all.says);
+        }),
+        all.there,
+      )
+      go (inr (fault, is, status_is, left)) = by fault is status_is left
 
--- the same of all bytes of an input
-pub obeyed_list : (wanted : Wanted) (known : Option (List ℕ)) (bytes taken whole : List ℕ) (status : ℕ)
-    (old new : Option (List ℕ)) → known ≡ Some bytes → IsWhole known taken → whole ≡ taken
-    → TellsList (list_of wanted) whole status old new → Answers (OfRecord (list_of wanted)) bytes status old new
-obeyed_list wanted known bytes taken whole status old new is has same tells =
-    let all : taken ≡ bytes = subst (λ (k : Option (List ℕ)). IfSome k (λ b. taken ≡ b)) is has.all in
-    let short : length whole ≤ 67108864 = subst (λ (b : List ℕ). length b ≤ 67108864) (sym same) has.short in
-    subst (λ (b : List ℕ). Answers (OfRecord (list_of wanted)) b status old new) (same ∙ all)
-    (listed_so wanted whole status old new short tells)
+  -- the same of all bytes of an input
+  pub obeyed_in_pieces : (known : Option (List ℕ)) (bytes taken whole : List ℕ) (status : ℕ)
+      (old new : Option (List ℕ)) → known ≡ Some bytes → IsWhole known taken → whole ≡ taken
+      → TellsPieces command whole status old new → Answers (OfRecord command) bytes status old new
+  obeyed_in_pieces known bytes taken whole status old new is has same tells =
+      let all : taken ≡ bytes = subst (λ (k : Option (List ℕ)). IfSome k (λ b. taken ≡ b)) is has.all in
+      let short : length whole ≤ 67108864 = subst (λ (b : List ℕ). length b ≤ 67108864) (sym same) has.short in
+      subst (λ (b : List ℕ). Answers (OfRecord command) b status old new) (same ∙ all)
+      (pieces_so whole status old new short tells)

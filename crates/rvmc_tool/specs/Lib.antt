@@ -8,8 +8,8 @@ pub mod Records
 pub mod Sessions
 pub mod Starting
 pub mod Answers
+pub mod Made
 pub mod Making
-pub mod Lists
 pub mod Tool
 pub mod Plain
 pub mod Hints

@@ -16,7 +16,10 @@ use Rattle.rvmc_line.specs.declared.line.RecordCommand.{RecordCommand}
 use Rattle.rvmc_line.specs.declared.line.Written.{Written}
 use Rattle.rvmc_list.specs.declared.walk.ListFault.{ListFault}
 use Rattle.rvmc_list.specs.declared.walk.ListFault.TheVariants as list
+use Rattle.rvmc_page.specs.declared.records.PageFault.{PageFault}
+use Rattle.rvmc_page.specs.declared.records.PageFault.TheVariants as page
 use Rattle.rvmc_report.specs.WholeRecord.{HasEachRank}
+use Rattle.rvmc_report.specs.declared.faults.DrawRefusal.TheVariants as drawn
 use Rattle.rvmc_report.specs.declared.faults.ExploreRefusal.{ExploreRefusal}
 use Rattle.rvmc_report.specs.declared.faults.Fault.{Fault}
 use Rattle.rvmc_report.specs.declared.faults.Fault.TheVariants as faults
@@ -149,6 +152,12 @@ fault_of_list list.NoRank = faults.List refusal.NoRank
 fault_of_list (list.PastEnd n) = faults.List (refusal.PastEnd n)
 fault_of_list (list.NotARun n) = faults.List (refusal.NotARun n)
 fault_of_list list.Memory = faults.Memory
+
+-- and of `page`
+abbrev pub fault_of_page : PageFault → Fault
+fault_of_page (page.PastEnd n) = faults.Page (drawn.PastEnd n)
+fault_of_page (page.NotARun n) = faults.Page (drawn.NotARun n)
+fault_of_page page.Memory = faults.Memory
 
 -- of what was read as a record: its first fault, or else one of its image and its steps, unless memory was refused
 abbrev pub IsReadFault : RecordCommand → Result (ImageParts × List Step) RecordFault → Fault → Type 0

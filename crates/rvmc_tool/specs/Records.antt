@@ -1,6 +1,6 @@
 -- What a command says of the image and the steps of a record, and for which fault it says nothing: one definition of each
 -- a command.
-use Rattle.std.specs.Prelude.{◌≡◌, ◌≤◌, ◌⊎◌, ◌-◌, ℕ, Bool, false, List, [], ◌∷◌, drop, length, take, MatchResult, Option, None, Some}
+use Rattle.std.specs.Prelude.{◌≡◌, ◌≤◌, ◌⊎◌, ◌-◌, ℕ, Bool, true, false, List, [], ◌∷◌, drop, length, take, MatchResult, Option, None, Some}
 use Rattle.std.specs.List.{All, sum_by}
 use Rattle.cl_debug.specs.declared.faults.DebugFault.{DebugFault}
 use Rattle.cl_debug.specs.declared.faults.DebugFault.TheVariants as debug
@@ -129,14 +129,12 @@ IsNoPicture image steps from to other = ⊥
 
 -- ---- `page`
 
--- a place that isn't there, a step that is none of the machine's, and more steps than a page may have are faults
+-- a place that isn't there, and a step that is none of the machine's, are faults
 abbrev pub IsNoPage : ImageParts → List Step → ℕ → Option ℕ → Fault → Type 0
 IsNoPage image steps from to (faults.Page (drawn.PastEnd n)) =
     PageFaultHolds image steps (view_of from to steps) (page.PastEnd n)
 IsNoPage image steps from to (faults.Page (drawn.NotARun n)) =
     PageFaultHolds image steps (view_of from to steps) (page.NotARun n)
-IsNoPage image steps from to (faults.Page (drawn.TooMany n)) =
-    PageFaultHolds image steps (view_of from to steps) (page.TooMany n)
 IsNoPage image steps from to other = ⊥
 
 -- ---- `debug`
@@ -183,6 +181,12 @@ IsNoPlace image steps n (faults.Why (place.NotARun k)) = ReplayFaultHolds image 
 IsNoPlace image steps n other = ⊥
 
 -- ---- all of them
+
+-- whether a command writes its text in pieces: the lines of steps, or a page
+abbrev pub is_in_pieces : RecordCommand → Bool
+is_in_pieces (ListSteps from to rank calls) = true
+is_in_pieces (Page from to texts) = true
+is_in_pieces other = false
 
 -- what stands on the output, and how it ends, of what stood behind the record, of its image and its steps. The status of
 -- `why` tells nothing of the verdict

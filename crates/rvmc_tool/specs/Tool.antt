@@ -1,16 +1,16 @@
 -- What the program leaves on standard output, and its status.
-use Rattle.std.specs.Prelude.{◌≡◌, ℕ, ◌≤◌, ◌⊎◌, ◌==◌, ◌||◌, Bool, false, List, [], length, MatchResult, Option, Err}
+use Rattle.std.specs.Prelude.{◌≡◌, ℕ, ◌≤◌, ◌⊎◌, ◌==◌, ◌||◌, Bool, true, false, List, [], length, MatchResult, Option, Err}
 use Rattle.std.specs.Prelude.{string_bytes}
 use Rattle.std.specs.Io.{StartsWith}
 use Rattle.std.specs.Io.KnownBytes.{Appends, Keeps}
 use Rattle.rvmc_tool.specs.Answers.{HasThreads, Says}
 use Rattle.rvmc_tool.specs.Ends.{IsFaulty}
 use Rattle.rvmc_tool.specs.Images.{image_in}
+use Rattle.rvmc_tool.specs.Records.{is_in_pieces}
 use Rattle.rvmc_tool.specs.Sessions.{is_session}
 use Rattle.rvmc_cli.specs.Meaning.{Parses}
 use Rattle.rvmc_line.specs.declared.line.CommandLine.{CommandLine}
 use Rattle.rvmc_line.specs.declared.line.CommandLine.TheVariants.{Join, OfImage, OfRecord, Session, WordSession}
-use Rattle.rvmc_line.specs.declared.line.RecordCommand.TheVariants.{List as ListSteps}
 use Rattle.rvmc_line.specs.declared.line.ParseFault.{ParseFault}
 use Rattle.rvmc_line.specs.declared.line.ParseFault.TheVariants as parse
 
@@ -32,10 +32,10 @@ pub record IsSaid (line : CommandLine) (bytes : List ℕ) (text : List ℕ) (sta
   pub short : is_session line ≡ false → length bytes ≤ 67108864
   pub says : Says line bytes text status ⊎ IsUnlike line bytes text status
 
--- of `list`: memory was refused while its text was written, so that a beginning of it stands there
+-- of `list` and `page`: memory was refused while the text was written, so that a beginning of it stands there
 abbrev pub IsCutShort : CommandLine → List ℕ → List ℕ → ℕ → Type 0
-IsCutShort (OfRecord (ListSteps from to rank calls)) bytes text status =
-    (status ≡ 5) × (whole : List ℕ) × IsSaid (OfRecord (ListSteps from to rank calls)) bytes whole 0
+IsCutShort (OfRecord command) bytes text status =
+    (is_in_pieces command ≡ true) × (status ≡ 5) × (whole : List ℕ) × IsSaid (OfRecord command) bytes whole 0
     × StartsWith whole text
 IsCutShort other bytes text status = ⊥
 

@@ -8,7 +8,7 @@ ghost use Rattle.rvmc_tool.specs.Answers.{Makes, Says, SaysOfImage};
 ghost use Rattle.rvmc_tool.specs.Ends.{IsDone, end_status};
 ghost use Rattle.rvmc_tool.specs.Making.{EndsSo, IsFaultOf, IsImageFault, IsWhole, RefusesImage};
 ghost use Rattle.rvmc_tool.specs.Making.{needs_threads, runs_threads};
-ghost use Rattle.rvmc_tool.specs.Lists.{is_written_as_made};
+ghost use Rattle.rvmc_tool.specs.Made.{is_written_as_made};
 ghost use Rattle.rvmc_tool.specs.Outputs.{output_bytes};
 ghost use Rattle.rvmc_tool.specs.declared.answers.End.TheVariants.{Status};
 

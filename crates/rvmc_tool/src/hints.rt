@@ -112,10 +112,6 @@ fn of_bytes<'a>(bytes: &'a [u8], fault: &Fault) -> Option<Hint<'a>> {
 /// How a record with more marks than a picture may have is drawn.
 const FEWER: &str = "a picture has at most 5000 marks: --from and --to draw a part of the record";
 
-/// How a page is made of a record with more steps than a page may have.
-const SHORTER: &str =
-    "a page has at most 200000 steps: --from and --to make one of a part of the record";
-
 /// What can be told of a fault, of what stands in the input.
 fn hint_of<'a>(
     alloc: Global,
@@ -131,7 +127,6 @@ fn hint_of<'a>(
         Fault::Plans => plans(alloc, line, bytes),
         Fault::Explore(ExploreRefusal::NotAText(1)) => content(alloc, line, bytes),
         Fault::Draw(DrawRefusal::TooMany(_)) => Some(Hint::Most(FEWER)),
-        Fault::Page(DrawRefusal::TooMany(_)) => Some(Hint::Most(SHORTER)),
         _ => None,
     }
 }

@@ -11,6 +11,7 @@ mod exploring;
 mod hints;
 mod images;
 mod listing;
+mod made;
 mod mistyped;
 pub mod outputs;
 mod paging;

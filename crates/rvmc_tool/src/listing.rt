@@ -7,7 +7,7 @@ ghost use Rattle.rvmc_line.specs.declared.line.CommandLine.TheVariants.{OfRecord
 ghost use Rattle.rvmc_line.specs.declared.line.RecordCommand.TheVariants as command;
 ghost use Rattle.rvmc_list.specs.Stats.{IsStats};
 ghost use Rattle.rvmc_report.specs.Input.{TakesAtMost};
-ghost use Rattle.rvmc_tool.specs.Lists.{IsListed, LeavesList, TellsList, list_of};
+ghost use Rattle.rvmc_tool.specs.Made.{IsMade, LeavesPieces, list_of};
 ghost use Rattle.rvmc_tool.specs.Making.{IsReadFault, IsStepsFault, fault_of_list};
 ghost use Rattle.rvmc_tool.specs.Outputs.{output_bytes};
 ghost use Rattle.rvmc_tool.specs.Records.{counted_of};
@@ -15,7 +15,8 @@ ghost use Rattle.rvmc_tool.specs.Tool.{Answers, is_quiet};
 ghost use Rattle.rvmc_tool.specs.declared.answers.End.TheVariants.{Status};
 
 use crate::answers::Answer;
-use crate::program::{fail, fail_with_hint, take};
+use crate::made::tell_made;
+use crate::program::take;
 use crate::records::read;
 use cl_machine::Step;
 use rv_image_types::Image;
@@ -39,7 +40,7 @@ fn refused(fault: ListFault) -> Fault
 
 /// Writes the steps that are wanted of the record that the bytes spell, in words, and says whether the writer took all of it.
 /// A rank or a place that isn't there, and a wrong step before the list's end, are faults of the input.
-#[tactic(auto, using(crate::proofs::Lists::left, crate::proofs::Lists::list_fault, crate::proofs::Lists::listed, crate::proofs::Lists::unread_left, crate::proofs::Readings::of_steps, crate::proofs::Readings::unread))]
+#[tactic(auto, using(crate::proofs::Lists::left, crate::proofs::Lists::list_fault, crate::proofs::Lists::listed, crate::proofs::Left::unread_left, crate::proofs::Readings::of_steps, crate::proofs::Readings::unread))]
 fn put_list<O: Write>(
     alloc: Global,
     wanted: &Wanted,
@@ -47,36 +48,13 @@ fn put_list<O: Write>(
     out: &mut O,
 ) -> Result<bool, Fault>
     ensures listed { IfOk result (λ taken. taken ≡ true
-        → IsListed (list_of wanted.now) bytes.now (O.contents out.old) (O.contents out.new)) }
+        → IsMade (list_of wanted.now) bytes.now (O.contents out.old) (O.contents out.new)) }
     ensures fault { IfErr result (IsReadFault (list_of wanted.now) (reading_record bytes.now)) }
     ensures left { IfErr result (λ fault.
-        LeavesList (list_of wanted.now) bytes.now fault (O.contents out.old) (O.contents out.new)) }
+        LeavesPieces (list_of wanted.now) bytes.now fault (O.contents out.old) (O.contents out.new)) }
 {
     let (image, steps) = read(alloc, bytes)?;
     list(alloc, &image, &steps, wanted, out).map_err(|fault| refused(fault))
-}
-
-/// Writes such a list on standard output, and tells on standard error the fault that is in its place, or that cuts it short.
-fn tell_list<O: Write, E: Write>(
-    alloc: Global,
-    line: &CommandLine,
-    wanted: &Wanted,
-    bytes: &[u8],
-    out: &mut O,
-    err: &mut E,
-) -> u8
-    ensures told { result ≢ 6 → TellsList (list_of wanted.now) bytes.now result (O.contents out.old) (O.contents out.new) }
-    ensures quiet { is_quiet result ≡ true → AppendsHint (E.contents err.old) (E.contents err.new) }
-{
-    let put = put_list(alloc, wanted, bytes, out);
-    if out.flush().is_err() {
-        return fail(err, Fault::Write);
-    }
-    match put {
-        Ok(true) => 0,
-        Ok(false) => fail(err, Fault::Write),
-        Err(fault) => fail_with_hint(alloc, line, bytes, fault, err),
-    }
 }
 
 /// `list`: a record is read, and the steps that are wanted are written in words, piece by piece.
@@ -95,7 +73,11 @@ pub(crate) fn listed<I: Read, O: Write, E: Write>(
     ensures quiet { is_quiet result ≡ true → AppendsHint (E.contents err.old) (E.contents err.new) }
 {
     match take(alloc, input, err) {
-        Ok(bytes) => tell_list(alloc, line, wanted, bytes.as_slice(), out, err),
+        Ok(bytes) => {
+            let whole = bytes.as_slice();
+            let listed = put_list(alloc, wanted, whole, out);
+            tell_made(alloc, line, whole, listed, out, err)
+        }
         Err(status) => status,
     }
 }

@@ -1,22 +1,25 @@
 //! Pages of records.
 
-ghost use Rattle.std.specs.Prelude.{◌≡◌, ◌≤◌, ◌-◌, IfErr, IfOk, drop, length, map, take};
+ghost use Rattle.std.specs.Prelude.{◌≡◌, ◌≢◌, ◌≤◌, ◌-◌, IfErr, IfOk, List, Some, drop, length, map, take, true, ℕ};
+ghost use Rattle.cl_text.specs.Reading.{reading_record};
+ghost use Rattle.rvmc_hints.specs.HintLines.{AppendsHint};
+ghost use Rattle.rvmc_line.specs.declared.line.CommandLine.TheVariants.{OfRecord};
 ghost use Rattle.rvmc_line.specs.declared.line.RecordCommand.TheVariants as command;
-ghost use Rattle.rvmc_page.specs.Records.{IsPage};
 ghost use Rattle.rvmc_page.specs.Texts.{source_of};
-ghost use Rattle.rvmc_picture.specs.Pictures.{view_of};
-ghost use Rattle.rvmc_tool.specs.Making.{IsStepsFault};
-ghost use Rattle.rvmc_tool.specs.Outputs.{output_bytes};
-ghost use Rattle.rvmc_tool.specs.Records.{size_of_all, sources_in};
-ghost use Rattle.rvmc_tool.specs.declared.answers.End.TheVariants.{Status};
+ghost use Rattle.rvmc_report.specs.Input.{TakesAtMost};
+ghost use Rattle.rvmc_tool.specs.Made.{IsMade, LeavesPieces};
+ghost use Rattle.rvmc_tool.specs.Making.{IsReadFault, fault_of_page};
+ghost use Rattle.rvmc_tool.specs.Records.{record_part, size_of_all, sources_in};
+ghost use Rattle.rvmc_tool.specs.Tool.{Answers, is_quiet};
 
-use crate::answers::Answer;
-use cl_machine::Step;
-use rv_image_types::Image;
-use rvmc_line::{SourceSize, SourceSizes};
+use crate::made::tell_made;
+use crate::program::take;
+use crate::records::read;
+use rvmc_line::{CommandLine, SourceSize, SourceSizes};
 use rvmc_page::{PageFault, SourceText, page};
 use rvmc_report::faults::{DrawRefusal, Fault};
 use std::alloc::{AllocError, Global};
+use std::io::{Read, Write};
 
 /// How many of so many bytes stand before those of the sources.
 fn left(texts: &[SourceSize], count: u64) -> u64
@@ -31,7 +34,7 @@ fn left(texts: &[SourceSize], count: u64) -> u64
 }
 
 /// The bytes before those of the sources, and theirs.
-pub(crate) fn split<'a>(texts: &[SourceSize], bytes: &'a [u8]) -> (&'a [u8], &'a [u8])
+fn split<'a>(texts: &[SourceSize], bytes: &'a [u8]) -> (&'a [u8], &'a [u8])
     ensures before { result.0.now ≡ take (length bytes.now - size_of_all texts.now) bytes.now }
     ensures behind { result.1.now ≡ drop (length bytes.now - size_of_all texts.now) bytes.now }
 {
@@ -67,27 +70,64 @@ fn sources<'a>(
     Ok(sources)
 }
 
-/// `page`: the steps from one place to another, and the sources that stood behind the record, as a page that walks them. A
-/// place that isn't there, a wrong step, and more steps than a page may have are faults of the input.
-pub(crate) fn paged(
+/// What is told of a fault of a page.
+fn refused(fault: PageFault) -> Fault
+    ensures { result ≡ fault_of_page fault }
+{
+    match fault {
+        PageFault::PastEnd(count) => Fault::Page(DrawRefusal::PastEnd(count)),
+        PageFault::NotARun(number) => Fault::Page(DrawRefusal::NotARun(number)),
+        PageFault::Memory => Fault::Memory,
+    }
+}
+
+/// Writes the steps from one place to another of the record that the bytes spell as a page, with the sources that stand behind
+/// it, and says whether the writer took all of it. A place that isn't there, and a wrong step, are faults of the input.
+#[tactic(auto, using(crate::proofs::Pages::left, crate::proofs::Pages::page_fault, crate::proofs::Pages::paged, crate::proofs::Left::unread_left, crate::proofs::Pages::of_page, crate::proofs::Pages::unread_page))]
+fn put_page<O: Write>(
     from: u64,
     to: Option<u64>,
     texts: &SourceSizes,
-    behind: &[u8],
     alloc: Global,
-    image: &Image,
-    steps: &[Step],
-) -> Result<Answer, Fault>
-    ensures tells { IfOk result (λ answer. IsPage image.now steps.now (view_of from to steps.now)
-        (sources_in texts.now behind.now) (output_bytes answer.output) × (answer.end ≡ Status 0)) }
-    ensures fault { IfErr result (IsStepsFault (command.Page from to texts.now) image.now steps.now) }
+    bytes: &[u8],
+    out: &mut O,
+) -> Result<bool, Fault>
+    ensures paged { IfOk result (λ taken. taken ≡ true
+        → IsMade (command.Page from to texts.now) bytes.now (O.contents out.old) (O.contents out.new)) }
+    ensures fault { IfErr result
+        (IsReadFault (command.Page from to texts.now) (reading_record (record_part (command.Page from to texts.now) bytes.now))) }
+    ensures left { IfErr result (λ fault.
+        LeavesPieces (command.Page from to texts.now) bytes.now fault (O.contents out.old) (O.contents out.new)) }
 {
+    let (record, behind) = split(texts.as_slice(), bytes);
+    let (image, steps) = read(alloc, record)?;
     let sources = sources(alloc, texts.as_slice(), behind)?;
-    match page(alloc, image, steps, from, to, &sources) {
-        Ok(text) => Ok(Answer::done(text)),
-        Err(PageFault::PastEnd(count)) => Err(Fault::Page(DrawRefusal::PastEnd(count))),
-        Err(PageFault::NotARun(number)) => Err(Fault::Page(DrawRefusal::NotARun(number))),
-        Err(PageFault::TooMany(count)) => Err(Fault::Page(DrawRefusal::TooMany(count))),
-        Err(PageFault::Memory) => Err(Fault::Memory),
+    page(alloc, &image, &steps, from, to, &sources, out).map_err(|fault| refused(fault))
+}
+
+/// `page`: a record is read, and sources behind it, and a page of both is written, piece by piece.
+#[tactic(auto, using(crate::proofs::Quiet::hinted_behind))]
+pub(crate) fn paged<I: Read, O: Write, E: Write>(
+    from: u64,
+    to: Option<u64>,
+    texts: &SourceSizes,
+    alloc: Global,
+    line: &CommandLine,
+    input: &mut I,
+    out: &mut O,
+    err: &mut E,
+) -> u8
+    ensures answers { (bytes : List ℕ) → I.remaining input.old ≡ Some bytes → result ≢ 6
+        → Answers (OfRecord (command.Page from to texts.now)) bytes result (O.contents out.old) (O.contents out.new) }
+    ensures front { TakesAtMost 67112960 (I.remaining input.old) (I.remaining input.new) }
+    ensures quiet { is_quiet result ≡ true → AppendsHint (E.contents err.old) (E.contents err.new) }
+{
+    match take(alloc, input, err) {
+        Ok(bytes) => {
+            let whole = bytes.as_slice();
+            let paged = put_page(from, to, texts, alloc, whole, out);
+            tell_made(alloc, line, whole, paged, out, err)
+        }
+        Err(status) => status,
     }
 }

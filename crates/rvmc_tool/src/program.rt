@@ -2,7 +2,7 @@
 
 ghost use Rattle.std.specs.Prelude.{◌≡◌, ◌≢◌, IfErr, IfOk, List, OnOk, ℕ, None, Ok, Some, false, map, true};
 ghost use Rattle.std.specs.Io.KnownBytes.{Appends, Keeps};
-ghost use Rattle.rvmc_tool.specs.Lists.{is_written_as_made};
+ghost use Rattle.rvmc_tool.specs.Made.{is_written_as_made};
 ghost use Rattle.rvmc_tool.specs.Making.{needs_threads};
 ghost use Rattle.rvmc_tool.specs.Outputs.{output_bytes};
 ghost use Rattle.rvmc_cli.specs.Meaning.{meaning_of};
@@ -20,6 +20,7 @@ use crate::hints::{put_hint, tell_hint};
 use crate::listing::listed;
 use crate::mistyped::hint_words;
 use crate::outputs::Output;
+use crate::paging::paged;
 use crate::sessions::{served, served_words};
 use rvmc_cli::parse;
 use rvmc_hints::Hint;
@@ -194,7 +195,8 @@ fn tell<O: Write, E: Write>(
     }
 }
 
-/// Whether a command's answer is written as it is made: that of a session as its input comes, and of a list step by step.
+/// Whether a command's answer is written as it is made: that of a session as its input comes, and of a list and a page step
+/// by step.
 fn is_written_as_made(line: &CommandLine) -> bool
     ensures { result ≡ is_written_as_made line.now }
 {
@@ -202,7 +204,7 @@ fn is_written_as_made(line: &CommandLine) -> bool
         line,
         CommandLine::Session { .. }
             | CommandLine::WordSession
-            | CommandLine::OfRecord(RecordCommand::List { .. })
+            | CommandLine::OfRecord(RecordCommand::List { .. } | RecordCommand::Page { .. })
     )
 }
 
@@ -238,6 +240,9 @@ fn obey_by_pieces<I: Read, O: Write, E: Write>(
                 calls: *calls,
             };
             listed(alloc, line, &wanted, input, out, err)
+        }
+        CommandLine::OfRecord(RecordCommand::Page { from, to, texts }) => {
+            paged(*from, *to, texts, alloc, line, input, out, err)
         }
         _ => unreachable!(),
     }
@@ -359,7 +364,7 @@ pub fn tool<'a, R: Threads + Wait + Sync, I: Read, O: Write, E: Write>(
     err: &mut E,
 ) -> u8
     // The words mean a command line: what it says of all the bytes stands on the output, or nothing: for want of memory
-    // or of a thread, or where the threads left what doesn't fit together; of `list` for want of memory a beginning.
+    // or of a thread, or where the threads left what doesn't fit together; of `list` and `page` for want of memory a beginning.
     ensures answers { (line : Line) (bytes : List ℕ) → meaning_of (map (λ w. w.now) words.entry.now) ≡ Some line
         → I.remaining input.old ≡ Some bytes → result ≢ 6
         → Answers line bytes result (O.contents out.old) (O.contents out.new) }

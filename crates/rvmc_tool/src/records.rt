@@ -1,14 +1,13 @@
 //! What a command answers that takes a record: it is read here once, for all of them.
 
-ghost use Rattle.std.specs.Prelude.{◌≡◌, ◌≢◌, IfErr, IfOk, List, Ok, false};
+ghost use Rattle.std.specs.Prelude.{◌≡◌, ◌≢◌, [], IfErr, IfOk, List, Ok, false};
 ghost use Rattle.cl_text.specs.Reading.{reading_record};
 ghost use Rattle.rvmc_line.specs.declared.line.RecordCommand.TheVariants as asked;
 ghost use Rattle.rvmc_words.specs.declared.debug.DebugWord.{DebugWord};
 ghost use Rattle.rvmc_tool.specs.Ends.{end_status};
 ghost use Rattle.rvmc_tool.specs.Making.{HasTold, IsReadFault, IsStepsFault, IsUnread};
-ghost use Rattle.rvmc_tool.specs.Lists.{is_list};
 ghost use Rattle.rvmc_tool.specs.Outputs.{output_bytes};
-ghost use Rattle.rvmc_tool.specs.Records.{SaysOfRecord, TellsOfSteps, part_behind, record_part};
+ghost use Rattle.rvmc_tool.specs.Records.{SaysOfRecord, TellsOfSteps, is_in_pieces, record_part};
 
 use crate::answers::Answer;
 use crate::checks::checked;
@@ -16,7 +15,6 @@ use crate::debugging::debugged;
 use crate::drawing::pictured;
 use crate::explaining::explained;
 use crate::listing::counted_steps;
-use crate::paging::{paged, split};
 use crate::reporting::reported;
 use cl_machine::Step;
 use cl_text::read_record;
@@ -33,19 +31,18 @@ pub(crate) fn read(alloc: Global, bytes: &[u8]) -> Result<(Image, Vec<Step>), Fa
     Ok(read_record(alloc, bytes)?)
 }
 
-/// What a command that only looks at the image and the steps of a record, and at what stood behind it, tells of them, or the
-/// fault for which it tells nothing: one case a command. What `list` tells isn't made here: it is written as it is made.
+/// What a command that only looks at the image and the steps of a record tells of them, or the fault for which it tells
+/// nothing: one case a command. What `list` and `page` tell isn't made here: it is written as it is made.
 fn told_of(
     alloc: Global,
     command: &RecordCommand,
-    behind: &[u8],
     image: &Image,
     steps: &[Step],
 ) -> Result<Answer, Fault>
-    requires list { is_list command.now ≡ false }
+    requires whole { is_in_pieces command.now ≡ false }
     requires looks { (words : List DebugWord) → command.now ≢ asked.Debug words }
     ensures tells { IfOk result (λ answer.
-        TellsOfSteps command.now behind.now image.now steps.now (output_bytes answer.output) answer.end) }
+        TellsOfSteps command.now [] image.now steps.now (output_bytes answer.output) answer.end) }
     ensures fault { IfErr result (IsStepsFault command.now image.now steps.now) }
 {
     match command {
@@ -55,66 +52,45 @@ fn told_of(
             counted_steps(alloc, *from, *to, *rank, image, steps)
         }
         RecordCommand::Draw { from, to } => pictured(alloc, *from, *to, image, steps),
-        RecordCommand::Page { from, to, texts } => {
-            paged(*from, *to, texts, behind, alloc, image, steps)
-        }
         RecordCommand::Why { at, frames } => explained(alloc, *at, *frames, image, steps),
-        RecordCommand::List { .. } | RecordCommand::Debug { .. } => unreachable!(),
+        RecordCommand::List { .. } | RecordCommand::Page { .. } | RecordCommand::Debug { .. } => {
+            unreachable!()
+        }
     }
 }
 
-/// What a command tells of the image and the steps of a record, and of what stood behind it. A debugger keeps both; what only looks at them borrows
-/// them.
+/// What a command tells of the image and the steps of a record. A debugger keeps both; what only looks at them borrows them.
 fn told(
     alloc: Global,
     command: &RecordCommand,
-    behind: &[u8],
     image: Image,
     steps: Vec<Step>,
 ) -> Result<Answer, Fault>
-    requires { is_list command.now ≡ false }
+    requires { is_in_pieces command.now ≡ false }
     ensures tells { IfOk result (λ answer.
-        TellsOfSteps command.now behind.now image steps.items (output_bytes answer.output) answer.end) }
+        TellsOfSteps command.now [] image steps.items (output_bytes answer.output) answer.end) }
     ensures fault { IfErr result (IsStepsFault command.now image steps.items) }
 {
     match command {
         RecordCommand::Debug { words } => debugged(alloc, words, image, steps),
-        _ => told_of(alloc, command, behind, &image, &steps),
+        _ => told_of(alloc, command, &image, &steps),
     }
 }
 
-/// The bytes of the record, and those behind it.
-fn parts<'a>(command: &RecordCommand, bytes: &'a [u8]) -> (&'a [u8], &'a [u8])
-    ensures record { result.0.now ≡ record_part command.now bytes.now }
-    ensures behind { result.1.now ≡ part_behind command.now bytes.now }
-{
-    match command {
-        RecordCommand::Page { texts, .. } => split(texts.as_slice(), bytes),
-        RecordCommand::Check
-        | RecordCommand::Report
-        | RecordCommand::Debug { .. }
-        | RecordCommand::List { .. }
-        | RecordCommand::Stats { .. }
-        | RecordCommand::Draw { .. }
-        | RecordCommand::Why { .. } => (bytes, &[]),
-    }
-}
-
-/// What a command answers to the bytes of a record, and to those behind it.
-#[tactic(auto, using(crate::proofs::Readings::has_told, crate::proofs::Readings::of_steps, crate::proofs::Readings::says, crate::proofs::Readings::unread))]
+/// What a command answers to the bytes of a record.
+#[tactic(auto, using(crate::proofs::Readings::told_whole, crate::proofs::Readings::steps_whole, crate::proofs::Readings::says_whole, crate::proofs::Readings::unread_whole))]
 pub(crate) fn answer_of_record(
     alloc: Global,
     command: &RecordCommand,
     bytes: &[u8],
 ) -> Result<Answer, Fault>
-    requires { is_list command.now ≡ false }
+    requires { is_in_pieces command.now ≡ false }
     ensures says { IfOk result (λ answer.
         SaysOfRecord command.now bytes.now (output_bytes answer.output) (end_status answer.end)) }
     ensures ends { IfOk result (λ answer. HasTold command.now bytes.now (output_bytes answer.output) answer.end) }
     ensures fault { IfErr result (IsReadFault command.now (reading_record (record_part command.now bytes.now))) }
 {
-    let (record, behind) = parts(command, bytes);
-    let (image, steps) = read(alloc, record)?;
-    let answer = told(alloc, command, behind, image, steps)?;
+    let (image, steps) = read(alloc, bytes)?;
+    let answer = told(alloc, command, image, steps)?;
     Ok(answer)
 }

@@ -5,7 +5,7 @@ ghost use Rattle.cl_replay.specs.declared.checking.Verdict.TheVariants.{Good};
 ghost use Rattle.rvmc_tool.specs.Answers.{Says};
 ghost use Rattle.rvmc_tool.specs.Ends.{IsDone, end_status};
 ghost use Rattle.rvmc_tool_laws.specs.Answers.{FitsStop};
-ghost use Rattle.rvmc_tool.specs.Lists.{is_written_as_made};
+ghost use Rattle.rvmc_tool.specs.Made.{is_written_as_made};
 ghost use Rattle.rvmc_tool.specs.Making.{needs_threads};
 ghost use Rattle.rvmc_tool.specs.Outputs.{output_bytes};
 ghost use Rattle.rvmc_tool.specs.Plans.{ArePlansOf};

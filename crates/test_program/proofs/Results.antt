@@ -1,10 +1,6 @@
 -- What follows for a result.
 use Rattle.std.specs.Prelude.{Result, Ok, Err, IfOk, OnOk}
 
-pub of_ok : {T E : Type 0} (r : Result T E) (P Q : T → Type 0) → ((x : T) → P x → Q x) → IfOk r P → IfOk r Q
-of_ok (Ok x) P Q f h = f x h
-of_ok (Err e) P Q f h = tt
-
 pub on_ok : {T E P Q : Type 0} (r : Result T E) → (P → Q) → OnOk r P → OnOk r Q
 on_ok (Ok x) f p = f p
 on_ok (Err e) f p = tt

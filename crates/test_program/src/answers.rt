@@ -5,7 +5,7 @@ ghost use Rattle.cl_record.specs.declared.plans.Plan.{Plan as Held};
 ghost use Rattle.cl_text.specs.declared.faults.RecordFault.TheVariants.{Short};
 ghost use Rattle.rv_asm_tokens.specs.declared.fault.AsmFault.{AsmFault};
 ghost use Rattle.rvmc_tool.specs.Ends.{end_status};
-ghost use Rattle.rvmc_tool.specs.Lists.{is_written_as_made};
+ghost use Rattle.rvmc_tool.specs.Made.{is_written_as_made};
 ghost use Rattle.rvmc_tool.specs.Making.{needs_threads};
 ghost use Rattle.rvmc_tool.specs.Outputs.{output_bytes};
 ghost use Rattle.rvmc_report.specs.declared.faults.Fault.TheVariants as faults;

@@ -68,54 +68,54 @@ fn a_digest_begins_as_the_standard_says(rt: HostRuntime) {
 
 const FIRST: &str = "start 1 of 2 of split 9f31c0de12345678
 image 1234-0123456789abcdef harts 0,1
-2 ends, 20 states, 0 left, status 7
-end 1
+2 outcomes, 20 states, 0 left, status 7
+outcome 1
 8 bytes
-end 2
+outcome 2
 a
-end 2: rank 0 at divide+0x58 got rank 2's message, in end 1 rank 1's
+outcome 2: rank 0 at divide+0x58 got rank 2's message, in outcome 1 rank 1's
 2 bytes
 b
-2 ends of 20 states: no other end from start 1 of 2
+2 outcomes of 20 states: no other outcome from start 1 of 2
 ";
 
 const SECOND: &str = "start 2 of 2 of split 9f31c0de12345678
 image 1234-0123456789abcdef harts 0,1
-1 ends, 1 states, 0 left, status 0, for ever
-end 1
+1 outcomes, 1 states, 0 left, status 0, for ever
+outcome 1
 2 bytes
 b
 some runs go on for ever
-1 end of 1 state: no other end from start 2 of 2
+1 outcome of 1 state: no other outcome from start 2 of 2
 ";
 
 const LEFT: &str = "start 2 of 2 of split 9f31c0de12345678
 image 1234-0123456789abcdef harts 0,1
-0 ends, 7 states, 3 left, status 4
-0 ends of 7 states: not all from start 2 of 2: 3 states are left
+0 outcomes, 7 states, 3 left, status 4
+0 outcomes of 7 states: not all from start 2 of 2: 3 states are left
 ";
 
 const OTHER: &str = "start 2 of 2 of split 9f31c0de12345678
 image 1234-0123456789abcdef harts 0
-0 ends, 7 states, 3 left, status 4
-0 ends of 7 states: not all from start 2 of 2: 3 states are left
+0 outcomes, 7 states, 3 left, status 4
+0 outcomes of 7 states: not all from start 2 of 2: 3 states are left
 ";
 
-const BOTH: &str = "end 1: end 1 of start 1
-end 2
+const BOTH: &str = "outcome 1: outcome 1 of start 1
+outcome 2
 a
-end 2: end 2 of start 1
+outcome 2: outcome 2 of start 1
 b
 some runs go on for ever
-2 ends of 21 states of 2 starts: no other end
+2 outcomes of 21 states of 2 starts: no other outcome
 ";
 
-const ONE: &str = "end 1: end 1 of start 1
-end 2
+const ONE: &str = "outcome 1: outcome 1 of start 1
+outcome 2
 a
-end 2: end 2 of start 1
+outcome 2: outcome 2 of start 1
 b
-2 ends of 27 states of 2 starts: not all: start 2 isn't told whole
+2 outcomes of 27 states of 2 starts: not all: start 2 isn't told whole
 ";
 
 fn end(alloc: Global, head: &[u8], body: &[u8]) -> Result<EndText, AllocError> {
@@ -130,8 +130,8 @@ fn first_text(alloc: Global) -> Result<Vec<u8>, AllocError> {
         return Ok(text);
     };
     let mut ends = Vec::new(alloc);
-    ends.push(end(alloc, b"end 1", b"end 2\na\n")?)?;
-    let head = b"end 2: rank 0 at divide+0x58 got rank 2's message, in end 1 rank 1's";
+    ends.push(end(alloc, b"outcome 1", b"outcome 2\na\n")?)?;
+    let head = b"outcome 2: rank 0 at divide+0x58 got rank 2's message, in outcome 1 rank 1's";
     ends.push(end(alloc, head, b"b\n")?)?;
     let part = Part {
         number: 1,
@@ -207,10 +207,10 @@ fn damaged_texts_are_refused(rt: HostRuntime) {
     let rows = [
         ("8 bytes", "7 bytes"),
         ("8 bytes", "08 bytes"),
-        ("2 ends, ", "3 ends, "),
-        ("2 ends, ", "1 ends, "),
+        ("2 outcomes, ", "3 outcomes, "),
+        ("2 outcomes, ", "1 outcomes, "),
         ("20 states, ", "21 states, "),
-        ("no other end", "not all"),
+        ("no other outcome", "not all"),
         ("start 1 of 2 of", "start 3 of 2 of"),
         ("harts 0,1", "harts "),
         ("image", "imagf"),

@@ -33,7 +33,7 @@ loop-n-preserved g c =
           c.put_step.new.text.items
           (subst (λ (symbols : List Symbol). Puts symbols c.args.wanted.now c.loop-n.state n c.in_ok-phase.phase e
           c.put_step.new.state c.loop-n.text.items c.loop-n.begun c.put_step.new.text.items c.in_ok-begun.begun) named
-          c.in_ok-begun.ensures.puts) c.put_piece.new.text.items _ (c.put_piece.ensures (search rules));
+          c.in_ok-begun.ensures.puts) c.put_lines.new.text.items _ (c.put_lines.ensures (search rules));
       within = c.in_ok-begun.ensures.within;
       kept = subst (λ (symbols : List Symbol). AreKept symbols c.put_step.new.texts) named c.in_ok-begun.ensures.kept;
       most = omega (arith, on);

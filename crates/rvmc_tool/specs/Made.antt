@@ -1,4 +1,4 @@
--- What `list` leaves on standard output, piece by piece.
+-- What is written on standard output as it is made.
 use Rattle.std.specs.Prelude.{◌≡◌, ◌⊎◌, ℕ, Bool, true, false, List, Option}
 use Rattle.std.specs.Io.{StartsWith}
 use Rattle.std.specs.Io.KnownBytes.{Appends, Keeps}
@@ -12,18 +12,13 @@ use Rattle.rvmc_report.specs.Faults.{fault_status}
 use Rattle.rvmc_report.specs.declared.faults.Fault.{Fault}
 use Rattle.rvmc_report.specs.declared.faults.Fault.TheVariants as faults
 use Rattle.rvmc_tool.specs.Making.{IsReadFault}
-use Rattle.rvmc_tool.specs.Records.{SaysOfRecord}
+use Rattle.rvmc_tool.specs.Records.{SaysOfRecord, is_in_pieces, record_part}
 
--- whether a command lists steps
-abbrev pub is_list : RecordCommand → Bool
-is_list (ListSteps from to rank calls) = true
-is_list other = false
-
--- whether what a command answers is written as it is made, and never stands in memory as a whole: of a session, and of a
--- list
+-- whether what a command answers is written as it is made, and never stands in memory as a whole: of a session, and of what
+-- is written in pieces
 abbrev pub is_written_as_made : CommandLine → Bool
 is_written_as_made (OfImage source command) = false
-is_written_as_made (OfRecord command) = is_list command
+is_written_as_made (OfRecord command) = is_in_pieces command
 is_written_as_made (Session rank) = true
 is_written_as_made WordSession = true
 is_written_as_made Join = false
@@ -32,16 +27,16 @@ is_written_as_made Join = false
 abbrev pub list_of : Wanted → RecordCommand
 list_of wanted = ListSteps wanted.from wanted.to wanted.rank wanted.calls
 
--- ---- the steps to an output
+-- ---- pieces to an output
 
 -- all that a command says of the bytes of a record stands there
-pub record IsListed (command : RecordCommand) (bytes : List ℕ) (old new : Option (List ℕ)) : Type 0 where
+pub record IsMade (command : RecordCommand) (bytes : List ℕ) (old new : Option (List ℕ)) : Type 0 where
   pub text : List ℕ
   pub says : SaysOfRecord command bytes text 0
   pub there : Appends old new text
 
 -- a beginning of it does
-pub record IsListBegun (command : RecordCommand) (bytes : List ℕ) (old new : Option (List ℕ)) : Type 0 where
+pub record IsBegun (command : RecordCommand) (bytes : List ℕ) (old new : Option (List ℕ)) : Type 0 where
   pub text : List ℕ
   pub says : SaysOfRecord command bytes text 0
   pub front : List ℕ
@@ -49,13 +44,13 @@ pub record IsListBegun (command : RecordCommand) (bytes : List ℕ) (old new : O
   pub there : Appends old new front
 
 -- what a fault leaves there: nothing, or where memory is refused a beginning
-abbrev pub LeavesList : RecordCommand → List ℕ → Fault → Option (List ℕ) → Option (List ℕ) → Type 0
-LeavesList command bytes faults.Memory old new = Keeps old new ⊎ IsListBegun command bytes old new
-LeavesList command bytes other old new = Keeps old new
+abbrev pub LeavesPieces : RecordCommand → List ℕ → Fault → Option (List ℕ) → Option (List ℕ) → Type 0
+LeavesPieces command bytes faults.Memory old new = Keeps old new ⊎ IsBegun command bytes old new
+LeavesPieces command bytes other old new = Keeps old new
 
 -- all of it with the status 0; or what is left by a fault, with the fault's status
-abbrev pub TellsList : RecordCommand → List ℕ → ℕ → Option (List ℕ) → Option (List ℕ) → Type 0
-TellsList command bytes status old new =
-    ((status ≡ 0) × IsListed command bytes old new)
-    ⊎ ((fault : Fault) × IsReadFault command (reading_record bytes) fault × (status ≡ fault_status fault)
-    × LeavesList command bytes fault old new)
+abbrev pub TellsPieces : RecordCommand → List ℕ → ℕ → Option (List ℕ) → Option (List ℕ) → Type 0
+TellsPieces command bytes status old new =
+    ((status ≡ 0) × IsMade command bytes old new)
+    ⊎ ((fault : Fault) × IsReadFault command (reading_record (record_part command bytes)) fault
+    × (status ≡ fault_status fault) × LeavesPieces command bytes fault old new)
