@@ -70,7 +70,7 @@ const FIRST: &str = "start 1 of 2 of split 9f31c0de12345678
 image 1234-0123456789abcdef harts 0,1
 2 outcomes, 20 states, 0 left, status 7
 outcome 1
-8 bytes
+12 bytes
 outcome 2
 a
 outcome 2: rank 0 at divide+0x58 got rank 2's message, in outcome 1 rank 1's
@@ -205,8 +205,8 @@ fn replaced(alloc: Global, old: &str, new: &str) -> Result<String, AllocError> {
 #[test]
 fn damaged_texts_are_refused(rt: HostRuntime) {
     let rows = [
-        ("8 bytes", "7 bytes"),
-        ("8 bytes", "08 bytes"),
+        ("12 bytes", "11 bytes"),
+        ("12 bytes", "012 bytes"),
         ("2 outcomes, ", "3 outcomes, "),
         ("2 outcomes, ", "1 outcomes, "),
         ("20 states, ", "21 states, "),
