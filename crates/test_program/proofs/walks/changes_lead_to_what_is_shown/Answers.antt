@@ -14,7 +14,7 @@ returns c = λ debugging same_image same_steps low high.
     let to = c.args.to in
     let start = seen_at_start c.in_ok-walk.walk.start.items in
     let changes = differences c.in_ok-changes.changes.items in
-    let come = c.in_ok-changes.ensures image from start [] c.in_ok-walk.ensures in
+    let come = c.in_ok-changes.ensures.on image from start [] c.in_ok-walk.ensures.begun in
     let last : to ≡ max from to = omega (arith, c.requires.order) in
     let is : IsWalk image steps from to start changes =
     has_ended image steps from to start changes c.go_on.new.state
