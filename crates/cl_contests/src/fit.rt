@@ -98,8 +98,8 @@ fn is_fit_rank(
     Ok(rests_if(state, rank, own, waits, &ask))
 }
 
-/// Whether all ranks may be let go here: each asks within the patterns, each that makes a call which is made anew until there
-/// is something waits, and in vain, and so few messages are there that no send is refused.
+/// Whether all ranks may be let go here: every rank asks within the patterns, a rank whose call repeats until something is
+/// there already waits in vain, and there are too few messages for a send to be refused.
 ///
 /// Refusals: Memory.
 pub fn is_fit(standing: &Standing, patterns: &Patterns) -> Result<bool, MoveFault>

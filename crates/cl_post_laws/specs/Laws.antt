@@ -1,4 +1,4 @@
--- The laws of what a rank is told of its posts.
+-- How a rank goes on with the numbers that it is told for its posts.
 use Rattle.std.specs.Prelude.{ℕ, ◌<◌, ◌≤◌, ◌≡◌, false, true, length, Option}
 use Rattle.mp_types.specs.declared.messages.Message.{Message}
 use Rattle.mp_types.specs.declared.replies.Reply.{Reply}

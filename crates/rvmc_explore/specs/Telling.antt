@@ -1,4 +1,4 @@
--- What is told of a search.
+-- What `explore` prints.
 use Rattle.std.specs.Prelude.{ℕ, ◌+◌, ◌≡◌, ◌++◌, ◌==◌, ◌||◌, List, [], ◌∷◌, Bool, false, not, Option, Some, None, codes, if◌then◌else◌, length, slice_get}
 use Rattle.std.specs.Fmt.{decimal}
 use Rattle.std.specs.List.{list_any}

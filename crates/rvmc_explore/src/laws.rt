@@ -16,9 +16,9 @@ pub fn status_law()
     ensures { StatusLaw }
 {}
 
-/// What is told of one image and one order is one, where no state is left: each text is told of where a run by the order leads,
-/// and the end of every such run is told. So any two searches tell the same ends, with the same status, and the record of a
-/// number leads to its text.
+/// If no state is left, there is only one answer for an image and an order: each text belongs to a place to which a run by the
+/// order leads, and no such run ends without its text. So any two searches tell the same ends, with the same status, and the
+/// record of a number leads to its text.
 pub fn one_list_law()
     ensures { OneListLaw }
 {}

@@ -131,8 +131,8 @@ fn searched(
     }
 }
 
-/// What is told of a search from a start, which its text names: each end, whether some runs go on for ever, and whether
-/// these are all ends to which some order leads behind the start.
+/// Searches from a start and writes what was found, under the start's name: each end, whether some runs go on for ever, and
+/// whether any order could lead from the start to another end.
 ///
 /// Refusals: OtherImage where the start is one of another image; NoTurn where its turns lead nowhere; Memory, also where a
 /// clock came to its end.

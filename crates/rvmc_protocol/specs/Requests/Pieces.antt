@@ -1,4 +1,4 @@
--- Pieces of a payload: what stands behind a beginning, before a mark, and numbers.
+-- How a payload is taken apart: what follows a prefix, what comes before a mark, and numbers.
 use Rattle.std.specs.Prelude.{ℕ, Bool, List, [], ◌∷◌, length, drop, Option, Some, None, ◌&&◌, ◌==◌, if◌then◌else◌}
 use Rattle.std.specs.Prelude.{nat_eq, nat_lt, option_and_then, option_map}
 use Rattle.std.specs.Char.{is_digit}
