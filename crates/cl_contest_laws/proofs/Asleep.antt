@@ -16,7 +16,7 @@ use Rattle.mp_types.specs.declared.requests.Request.{Request}
 use Rattle.mp_hub.specs.Hub.{outcome}
 use Rattle.mp_wait_laws.proofs.Sets.{get-set_other}
 use Rattle.mp_alike_laws.specs.Renaming.{request_by}
-use Rattle.mp_source_laws.specs.Laws.{AsksWithin}
+use Rattle.mp_source_laws.specs.Laws.{AsksOfLive, AsksWithin}
 use Rattle.cl_calls.specs.Calls.{call_named}
 use Rattle.cl_calls.specs.Checks.{checks, first_fault}
 use Rattle.cl_calls.specs.Needs.{needs_of}
@@ -41,14 +41,14 @@ use Rattle.cl_order_laws.specs.Closed.{IsInVain}
 use Rattle.cl_order_laws.proofs.Each.{was_there}
 use Rattle.cl_order_laws.proofs.SureAlone.{IsLive, has_hart}
 use Rattle.cl_order_laws.proofs.SureHub.{reply_is}
-use Rattle.cl_reduction_laws.specs.Below.{AskWithin}
+use Rattle.cl_reduction_laws.specs.Below.{AskOfLive, AskWithin}
 use Rattle.cl_reduction_laws.proofs.Below.{same_reply}
 use Rattle.cl_schedule_laws.specs.Machines.{GoesOn}
 use Rattle.cl_schedule_laws.proofs.Walks.{snoc}
 use Rattle.cl_reduction_laws.specs.Clusters.{Search, State, cluster_machine}
 use Rattle.cl_reduction_laws.specs.Settled.{AllWithin}
 use Rattle.cl_reduction_laws.proofs.Clusters.{cluster_machine_law, vain}
-use Rattle.cl_reduction_laws.proofs.Follows.{asks_too, pair_from, waits_too}
+use Rattle.cl_reduction_laws.proofs.Follows.{asks_live, asks_too, pair_from, waits_too}
 use Rattle.cl_reduction_laws.proofs.Good.{Gone, IsMade, IsOwn, alone, called, gone, good_after, made_within}
 use Rattle.cl_reduction_laws.proofs.Machine.{IsSame, same_alike, turn_by}
 use Rattle.cl_contest_laws.proofs.Ends.{stops_too}
@@ -150,11 +150,13 @@ module _ (search : Search) where
               let its = within r x f.1 in
               let a = asks_hub e.cluster r (asked x (hart r)) (made_within search.patterns r (hart r) x its.0) waits.1 in
               let may : AsksWithin search.wild r a.0 = subst (AskWithin search.wild r) a.1 its.1 in
+              let live : AsksOfLive (hub_of e.cluster.journal).board a.0 =
+              subst (AskOfLive e.cluster) a.1 (asks_live search e r (hart r) x f.1) in
               inr (record {
                 on = waits_too alike.0 (hart r) x y sx sy f.2 ∙ (waits.0).on;
                 q = request_by alike.0 a.0;
                 asks = asks_too alike.0 (hart r) x y sx sy f.2 ∙ ap (ask_by alike.0) a.1;
-                none = same_reply e.cluster.journal r a.0 d.cluster.journal (request_by alike.0 a.0) search.wild alike.0 may
+                none = same_reply e.cluster.journal r a.0 d.cluster.journal (request_by alike.0 a.0) search.wild alike.0 may live
                     (alike.1).hubs refl
                     ∙ a.2;
               })

@@ -1,21 +1,23 @@
 -- Ranks that are stuck together stay so, along turns within the patterns, and are so at the node to which those lead.
-use Rattle.std.proofs.Common.{◌≡◌, ◌∙◌, ℕ, ◌<◌, ◌≤◌, refl, sym, ap, subst, arith, ◌⊎◌, inl, inr, Bool, true, false, List, [], ◌∷◌, length, Option, Some, None}
-use Rattle.std.specs.Prelude.{◌≢◌, is_some}
-use Rattle.std.specs.List.{slice_get, slice_set}
+use Rattle.std.proofs.Common.{◌≡◌, ◌∙◌, ℕ, ◌<◌, ◌≤◌, refl, sym, ap, subst, arith, ◌⊎◌, inl, inr, zero, suc, Bool, true, false, cond, List, [], ◌∷◌, length, Option, Some, None}
+use Rattle.std.specs.Prelude.{◌≢◌, ◌&&◌, is_some}
+use Rattle.std.specs.List.{list_all, slice_get, slice_set}
 use Rattle.std.specs.Option.{option_map}
-use Rattle.std.proofs.lemmas.Bool.{cases_Bool, cases_eq}
+use Rattle.std.proofs.lemmas.Bool.{and_parts, cases_Bool, cases_eq}
 use Rattle.std.proofs.lemmas.List.{get_or_past}
 use Rattle.std.proofs.lemmas.Option.{same_Some, slice_get-map}
 use Rattle.rv_image_types.specs.declared.images.ImageParts.{ImageParts}
 use Rattle.rv_hart.specs.State.{State as Hart}
 use Rattle.rv_hart.specs.declared.state.Mode.{Mode}
 use Rattle.rv_hart.specs.declared.state.Mode.TheVariants.{Waiting}
+use Rattle.mp_types.specs.declared.codes.Code.TheVariants as code
+use Rattle.mp_types.specs.declared.replies.Reply.{Reply}
 use Rattle.mp_types.specs.declared.replies.Reply.TheVariants as reply
 use Rattle.mp_types.specs.declared.requests.Request.{Request}
 use Rattle.mp_types.specs.declared.requests.Request.TheVariants as request
 use Rattle.mp_match.specs.declared.posts.Line.{Line}
-use Rattle.mp_match.specs.Board.{line_of}
-use Rattle.mp_hub.specs.Hub.{HubView, outcome}
+use Rattle.mp_match.specs.Board.{collect, is_send_of, line_of}
+use Rattle.mp_hub.specs.Hub.{HubView, all_collected, all_got, are_distinct, got_or, is_complete, is_known, is_ready, may_collect, outcome}
 use Rattle.mp_hub.proofs.Histories.{hub_more}
 use Rattle.mp_wait_laws.specs.Laws.{SendsAsMember}
 use Rattle.mp_wait_laws.specs.Waits.{IsUpTo, OnlyOf, could_pair, sends_over}
@@ -24,9 +26,9 @@ use Rattle.mp_wait_laws.proofs.Sets.{get-set_other}
 use Rattle.mp_wait_laws.proofs.Waits.{waits_law}
 use Rattle.mp_alike_laws.specs.Renaming.{Renaming, line_by, number_by, request_by}
 use Rattle.mp_source_laws.specs.Alike.{AlikeHubs, Wild}
-use Rattle.mp_source_laws.specs.Laws.{AsksWithin}
+use Rattle.mp_source_laws.specs.Laws.{AsksOfLive, AsksWithin}
 use Rattle.mp_source_laws.proofs.Answers.{answers_law}
-use Rattle.mp_source_laws.proofs.Named.{line_named, ready_named}
+use Rattle.mp_source_laws.proofs.Named.{AreSame, IsSame, all_known_same, collects_same, line_named, ready_named, sent_same}
 use Rattle.cl_journal.specs.Journal.{calls_of}
 use Rattle.cl_journal.specs.declared.entries.Entry.{Entry}
 use Rattle.cl_calls.specs.Checks.{is_comm}
@@ -57,12 +59,12 @@ use Rattle.cl_order_laws.proofs.SureHub.{reply_is}
 use Rattle.cl_order_laws.proofs.Vain.{hub_stays}
 use Rattle.cl_order_laws.proofs.Walks.{hub_entry}
 use Rattle.cl_outcome_laws.specs.Companies.{IsCompany}
-use Rattle.cl_reduction_laws.specs.Below.{AskWithin}
+use Rattle.cl_reduction_laws.specs.Below.{AskOfLive, AskWithin}
 use Rattle.cl_schedule_laws.specs.Machines.{AllWithin as AllInside, GoesOn}
 use Rattle.cl_reduction_laws.specs.Clusters.{Search, State, cluster_machine}
 use Rattle.cl_reduction_laws.specs.Settled.{AllWithin, IsFit}
 use Rattle.cl_reduction_laws.proofs.Clusters.{cluster_machine_law}
-use Rattle.cl_reduction_laws.proofs.Follows.{asks_too, pair, pair_from, waits_too}
+use Rattle.cl_reduction_laws.proofs.Follows.{asks_live, asks_too, pair, pair_from, waits_too}
 use Rattle.cl_reduction_laws.proofs.Good.{Gone, IsMade, IsOwn, alone, called, gone, made_within}
 use Rattle.cl_reduction_laws.proofs.Machine.{taken}
 use Rattle.cl_contest_laws.proofs.Ends.{many_too, stops_too}
@@ -76,27 +78,47 @@ module _ (member : ℕ → ℕ → Bool) (among : ℕ → Bool) (wild : Wild) (n
   pair_by None k = refl
   pair_by (Some line) k = refl
 
-  only_pair : (n : ℕ) → OnlyOf among (could_pair member (line_of a.board n))
+  only_pair : (n : ℕ) → IsSame names a.board b.board n → OnlyOf among (could_pair member (line_of a.board n))
       → OnlyOf among (could_pair member (line_of b.board (number_by names n)))
-  only_pair n only k could =
-      only k (sym (ap (λ o. could_pair member o k) (line_named names a.board b.board alike.board n)
+  only_pair n same only k could =
+      only k (sym (ap (λ o. could_pair member o k) (line_named names a.board b.board alike.board n same)
       ∙ pair_by (line_of a.board n) k) ∙ could)
 
-  up_to_named : (rank : ℕ) (q : Request) → IsUpTo member among a rank q → IsUpTo member among b rank (request_by names q)
-  up_to_named rank (request.Collect n) up_to = only_pair n up_to
-  up_to_named rank (request.Finished n) up_to = only_pair n up_to
-  up_to_named rank (request.Probe comm source tag) up_to = up_to
-  up_to_named rank (request.Claim comm source tag) up_to = up_to
-  up_to_named rank (request.All ns) up_to = (
-    up_to.0,
-    number_by names up_to.1,
-    slice_get-map (number_by names) ns up_to.0 ∙ ap (option_map (number_by names)) up_to.2,
-    ready_named names a b alike owned rank up_to.1 ∙ up_to.3,
-    only_pair up_to.1 up_to.4,
-  )
-  up_to_named rank (request.Cut link) up_to =
+  -- a call that waits isn't refused
+  not_refused : (x : Bool) (o : Reply × HubView) → (cond x o (reply.Code code.BadRequest, a)).0 ≡ reply.NotYet → x ≡ true
+  not_refused true o e = refl
+  not_refused false o e = absurd (cc)
+
+  same_in : (ns : List ℕ) (i n : ℕ) → AreSame names a.board b.board ns → slice_get ns i ≡ Some n → IsSame names a.board b.board n
+  same_in [] i n same here = absurd (cc)
+  same_in (m ∷ ns) zero n same here = subst (IsSame names a.board b.board) (same_Some m n here) same.0
+  same_in (m ∷ ns) (suc i) n same here = same_in ns i n same.1 here
+
+  up_to_named : (rank : ℕ) (q : Request) → AsksOfLive a.board q → (outcome a rank q).0 ≡ reply.NotYet
+      → IsUpTo member among a rank q
+      → IsUpTo member among b rank (request_by names q)
+  up_to_named rank (request.Collect n) live waits up_to =
+      only_pair n (collects_same names a b alike owned rank n
+      (not_refused (may_collect a rank n) (got_or a reply.NotYet (collect a.board n)) waits)) up_to
+  up_to_named rank (request.Finished n) live waits up_to =
+      only_pair n (sent_same names a.board b.board alike.board rank n live
+      (not_refused (is_send_of rank (line_of a.board n)) (cond (is_complete a n) reply.Done reply.NotYet, a) waits)) up_to
+  up_to_named rank (request.Probe comm source tag) live waits up_to = up_to
+  up_to_named rank (request.Claim comm source tag) live waits up_to = up_to
+  up_to_named rank (request.All ns) live waits up_to =
+      let known = and_parts (are_distinct ns) (list_all (λ n. is_known a rank n) ns)
+      (not_refused (are_distinct ns && list_all (λ n. is_known a rank n) ns)
+      (cond (list_all (λ n. is_ready a rank n) ns) (all_collected a (all_got rank a.board ns)) (reply.NotYet, a)) waits) in
+      let same = all_known_same names a b alike owned rank ns live known.1 in (
+        up_to.0,
+        number_by names up_to.1,
+        slice_get-map (number_by names) ns up_to.0 ∙ ap (option_map (number_by names)) up_to.2,
+        ready_named names a b alike owned rank up_to.1 (live up_to.0 up_to.1 up_to.2) ∙ up_to.3,
+        only_pair up_to.1 (same_in ns up_to.0 up_to.1 same up_to.2) up_to.4,
+      )
+  up_to_named rank (request.Cut link) live waits up_to =
       λ k could. up_to k (ap (λ ls. sends_over ls link k) (sym alike.links) ∙ could)
-  up_to_named rank _ up_to = absurd up_to
+  up_to_named rank _ live waits up_to = absurd up_to
 
 -- ---- where a rank sends
 
@@ -471,18 +493,21 @@ module _ (search : Search) (image : ImageParts) (ranks : List ℕ) where
           let asks = asks_too alike.0 (hart r) x y sx sy both ∙ ap (ask_by alike.0) held.asks in
           let within = (cluster_machine_law search).within r node a (alike_back search a node alike) (fit.within r) in
           let may : AsksWithin search.wild r held.q = subst (AskWithin search.wild r) held.asks (within x here).1 in
+          let live : AsksOfLive (hub_of a.cluster.journal).board held.q =
+          subst (AskOfLive a.cluster) held.asks (asks_live search a r (hart r) x here) in
           let site : y.site ≡ x.site = ap (λ (z : Rank). z.site) both.1 in
           record {
             patient = (fit.rests r y there on).0;
             in_vain = subst (AsksInVain ranks node.cluster r y.site) (sym asks) (
               (answers_law.reply) search.wild alike.0 a.cluster.journal.links node.cluster.journal.links
-                  (calls_of a.cluster.journal.entries) (calls_of node.cluster.journal.entries) r held.q may (alike.1).hubs
+                  (calls_of a.cluster.journal.entries) (calls_of node.cluster.journal.entries) r held.q may live (alike.1).hubs
                   ∙ (held.waits).0,
               subst (λ (z : Site). IsUpTo (is_member z) (is_among ranks) (hub_of node.cluster.journal) r (request_by alike.0 held.q))
                   (sym site)
                   (up_to_named (is_member x.site) (is_among ranks) search.wild alike.0 (hub_of a.cluster.journal)
                   (hub_of node.cluster.journal) (alike.1).hubs
-                  (owned_after a.cluster.journal.links (calls_of a.cluster.journal.entries)) r held.q (held.waits).1),
+                  (owned_after a.cluster.journal.links (calls_of a.cluster.journal.entries)) r held.q live (held.waits).0
+                  (held.waits).1),
             );
           }
 

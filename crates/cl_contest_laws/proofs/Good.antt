@@ -1,9 +1,8 @@
 -- What is alike a good cluster is good, where its harts stand at the calls that they are to make anew.
-use Rattle.std.proofs.Common.{◌≡◌, ◌∙◌, ℕ, zero, suc, ◌<◌, ◌≤◌, refl, sym, ap, subst, arith, inl, inr, List, [], ◌∷◌, Option, Some, None}
-use Rattle.std.specs.Prelude.{map}
+use Rattle.std.proofs.Common.{◌≡◌, ◌∙◌, ℕ, zero, suc, refl, sym, ap, subst, Bool, true, false, not, List, [], ◌∷◌, Option, Some, None}
+use Rattle.std.specs.Prelude.{◌&&◌, map}
 use Rattle.std.specs.List.{slice_get}
-use Rattle.std.specs.Option.{option_map}
-use Rattle.std.proofs.lemmas.Bool.{cases_lt}
+use Rattle.std.specs.Option.{is_some, option_map}
 use Rattle.std.proofs.lemmas.Option.{same_Some}
 use Rattle.rv_hart.specs.State.{State as Hart, in_mode}
 use Rattle.rv_hart.specs.declared.state.Mode.{Mode}
@@ -11,23 +10,26 @@ use Rattle.rv_hart.specs.declared.state.Mode.TheVariants.{Running, Waiting, Ende
 use Rattle.rv_hart.specs.declared.state.Wait.TheVariants.{Post, Again}
 use Rattle.mp_match.specs.declared.posts.Line.{Line}
 use Rattle.mp_match.specs.declared.posts.Post.TheVariants as post
+use Rattle.mp_match.specs.Board.{Board, is_standard}
 use Rattle.mp_hub.specs.Hub.{HubView}
 use Rattle.mp_alike_laws.specs.Renaming.{Renaming, followed_by, line_by, number_by, turned}
-use Rattle.mp_source_laws.specs.Alike.{AlikeHubs, Wild}
+use Rattle.mp_source_laws.specs.Alike.{AlikeBoards, AlikeHubs, IsAlikeAt, Wild, is_same, over_receives, over_sends}
+use Rattle.mp_source_laws.proofs.Over.{free_is_live, same_or_over}
+use Rattle.mp_source_laws.proofs.Likeness.{live_back}
 use Rattle.mp_source_laws.specs.Laws.{AsksFrom}
 use Rattle.mp_clash_laws.specs.Exchanges.{WaitsWithin}
 use Rattle.cl_names_laws.specs.Named.{hart_by, mode_by, rank_by, table_by}
 use Rattle.cl_state.specs.Rank.{Rank}
 use Rattle.cl_state_laws.specs.Awake.{StandsAtCall, awake, awake_hart, woken}
 use Rattle.cl_state_laws.specs.VainLaws.{at_clock}
-use Rattle.cl_reduction_laws.specs.Below.{NamesBelow}
+use Rattle.cl_reduction_laws.specs.Below.{NamesOnly}
 use Rattle.cl_machine.specs.Boxes.{Box}
 use Rattle.cl_machine.specs.Cluster.{Cluster}
 use Rattle.cl_order_laws.specs.Alike.{AlikeBoxes, both_empty, both_full, hub_of}
 use Rattle.cl_order_laws.proofs.Ahead.{rank_on}
 use Rattle.cl_order_laws.proofs.Likeness.{each_from, rank_fixed}
 use Rattle.cl_reduction_laws.specs.Below.{AreAlike}
-use Rattle.cl_reduction_laws.specs.Clusters.{IsGood, Search, awake_cluster, posts_of}
+use Rattle.cl_reduction_laws.specs.Clusters.{IsGood, Search, awake_cluster, may_be_named}
 use Rattle.cl_reduction_laws.proofs.Awake.{rank_same}
 use Rattle.cl_reduction_laws.proofs.Follows.{pair_from}
 
@@ -41,7 +43,9 @@ module _ (wild : Wild) (names : Renaming) (h k : HubView) (alike : AlikeHubs wil
   waits_alike : WaitsWithin wild h → WaitsWithin wild k
   waits_alike waits place a here =
       go (slice_get h.board.lines (names.back place)) refl
-      (sym ((alike.board).lines (names.back place)) ∙ ap (slice_get k.board.lines) (names.again place) ∙ here)
+      (sym (same_or_over names h.board k.board (names.back place) ((alike.board).lines (names.back place))
+      (live_back names h.board k.board alike.board place (free_is_live k.board place wanted here refl)))
+      ∙ ap (slice_get k.board.lines) (names.again place) ∙ here)
     where
       wanted : Line
       wanted = record { post = post.Receive a; partner = None }
@@ -58,41 +62,32 @@ module _ (wild : Wild) (names : Renaming) (h k : HubView) (alike : AlikeHubs wil
 
 -- ---- the posts that a rank names
 
--- names that give each place from so many on its own
-module _ (names : Renaming) (n : ℕ) (past : (place : ℕ) → n ≤ place → names.to place ≡ place) where
-  inside : (place : ℕ) → place < n → names.to place < n
-  inside place low = elim (cases_lt (names.to place) n) [
-    | inl is ↦ is
-    | inr out ↦
-        let fixed : names.to (names.to place) ≡ names.to place = past (names.to place) out in
-        let same : names.to place ≡ place =
-        sym (names.there (names.to place)) ∙ ap names.back fixed ∙ names.there place in
-        omega (arith, same, low)
-  ]
+-- names under which the posts of a set are again in a set
+module _ (names : Renaming) (named others : ℕ → Bool) (go : (place : ℕ) → named place ≡ true → others (names.to place) ≡ true)
+  where
+    turned_back : (k : ℕ) → number_by (followed_by (turned names) names) k ≡ k
+    turned_back zero = refl
+    turned_back (suc place) = ap suc (names.again place)
 
-  turned_back : (k : ℕ) → number_by (followed_by (turned names) names) k ≡ k
-  turned_back zero = refl
-  turned_back (suc place) = ap suc (names.again place)
+    only_named : (x : Rank) → NamesOnly named x → NamesOnly others (rank_by names x)
+    only_named x only more fixed =
+        let y = rank_by more (rank_by names x) in
+        let home : rank_by (turned names) y ≡ x =
+        ap (rank_by (turned names)) (rank_on names more x)
+        ∙ rank_on (followed_by names more) (turned names) x
+        ∙ only (followed_by (followed_by names more) (turned names))
+        (λ place is. ap names.back (fixed (names.to place) (go place is)) ∙ names.there place) in
+        sym (rank_fixed (followed_by (turned names) names) turned_back y)
+        ∙ sym (rank_on (turned names) names y)
+        ∙ ap (rank_by names) home
 
-  below_named : (x : Rank) → NamesBelow n x → NamesBelow n (rank_by names x)
-  below_named x below more fixed =
-      let y = rank_by more (rank_by names x) in
-      let home : rank_by (turned names) y ≡ x =
-      ap (rank_by (turned names)) (rank_on names more x)
-      ∙ rank_on (followed_by names more) (turned names) x
-      ∙ below (followed_by (followed_by names more) (turned names))
-      (λ place low. ap names.back (fixed (names.to place) (inside place low)) ∙ names.there place) in
-      sym (rank_fixed (followed_by (turned names) names) turned_back y)
-      ∙ sym (rank_on (turned names) names y)
-      ∙ ap (rank_by names) home
-
-below_clock : (n : ℕ) (x : Rank) (clock : ℕ) → NamesBelow n x → NamesBelow n (at_clock x clock)
-below_clock n x clock below names fixed = ap (λ z. at_clock z clock) (below names fixed)
+only_clock : (named : ℕ → Bool) (x : Rank) (clock : ℕ) → NamesOnly named x → NamesOnly named (at_clock x clock)
+only_clock named x clock only names fixed = ap (λ z. at_clock z clock) (only names fixed)
 
 -- ---- and awake
 
-below_awake : (n : ℕ) (x : Rank) → NamesBelow n x → NamesBelow n (awake x)
-below_awake n x below names fixed = sym (rank_same names x) ∙ ap awake (below names fixed)
+only_awake : (named : ℕ → Bool) (x : Rank) → NamesOnly named x → NamesOnly named (awake x)
+only_awake named x only names fixed = sym (rank_same names x) ∙ ap awake (only names fixed)
 
 asleep_mode : (names : Renaming) (m : Mode) → mode_by names (woken m) ≡ woken m → mode_by names m ≡ m
 asleep_mode names Running e = refl
@@ -118,9 +113,9 @@ asleep_harts names (h ∷ hs) e =
     let rest = asleep_harts names hs (same_tail (hart_by names (awake_hart h)) (awake_hart h) _ _ e) in
     (λ i. one i ∷ rest i)
 
-below_asleep : (n : ℕ) (x : Rank) → NamesBelow n (awake x) → NamesBelow n x
-below_asleep n x below names fixed =
-    let e = below names fixed in
+only_asleep : (named : ℕ → Bool) (x : Rank) → NamesOnly named (awake x) → NamesOnly named x
+only_asleep named x only names fixed =
+    let e = only names fixed in
     let harts = asleep_harts names x.harts (ap (λ (z : Rank). z.harts) e) in
     let table : table_by names x.requests ≡ x.requests = ap (λ (z : Rank). z.requests) e in
     (λ i. record x { harts = harts i; requests = table i })
@@ -131,6 +126,26 @@ sound_after : (u v : Box) → AlikeBoxes u v → AlikeBoxes v v
 sound_after u v (both_empty e f) = both_empty f f
 sound_after u v (both_full bytes f g) = both_full bytes g g
 
+-- a post that may be named is another one that may be
+named_alike : {wild : Wild} → (names : Renaming) (a b : Board) → AlikeBoards wild names a b → (place : ℕ)
+    → may_be_named a.lines place ≡ true → may_be_named b.lines (names.to place) ≡ true
+named_alike names a b alike place named = go (alike.lines place)
+  where
+    -- the test of a line doesn't see its partner
+    by_line : (o : Option Line) → (is_some (option_map (line_by names) o) && not (is_standard (option_map (line_by names) o)))
+        ≡ (is_some o && not (is_standard o))
+    by_line None = refl
+    by_line (Some line) = refl
+
+    go : IsAlikeAt names a b place → may_be_named b.lines (names.to place) ≡ true
+    go (is_same same) = ap (λ o. is_some o && not (is_standard o)) same ∙ by_line (slice_get a.lines place) ∙ named
+    go (over_sends mine theirs) =
+        let e : may_be_named a.lines place ≡ not (not (mine.sent).sync) =
+        ap (λ o. is_some o && not (is_standard o)) mine.there in
+        let f : not (not (mine.sent).sync) ≡ false = ap (λ x. not (not x)) mine.standard in
+        absurd (cc)
+    go (over_receives mine theirs) = ap (λ o. is_some o && not (is_standard o)) theirs.there
+
 pub good_alike : (search : Search) (a b : Cluster) → AreAlike search.wild (awake_cluster a) (awake_cluster b) → IsGood search a
     → ((r : ℕ) (rank : Rank) → slice_get b.ranks r ≡ Some rank → StandsAtCall rank (search.harts r))
     → IsGood search b
@@ -139,13 +154,14 @@ good_alike search a b k good stands = record {
   names = λ r y there.
       let f = pair_from search r a b k y there in
       let x = f.0 in
-      let many : posts_of b ≡ posts_of a = (((k.1).hubs).board).many in
-      subst (λ n. NamesBelow n y) (sym many)
-      (below_asleep (posts_of a) y
-      (subst (NamesBelow (posts_of a)) (sym (f.2).1)
-      (below_clock (posts_of a) (rank_by k.0 (awake x)) (f.2).0
-      (below_named k.0 (posts_of a) (((k.1).hubs).board).next (awake x)
-      (below_awake (posts_of a) x (good.names r x f.1))))));
+      let named = may_be_named (hub_of a.journal).board.lines in
+      let others = may_be_named (hub_of b.journal).board.lines in
+      only_asleep others y
+      (subst (NamesOnly others) (sym (f.2).1)
+      (only_clock others (rank_by k.0 (awake x)) (f.2).0
+      (only_named k.0 named others
+      (named_alike k.0 (hub_of a.journal).board (hub_of b.journal).board ((k.1).hubs).board) (awake x)
+      (only_awake named x (good.names r x f.1)))));
   boxes = λ i box there. (let f = each_from (k.1).boxes i box there in sound_after f.0 box f.2);
   stands = stands;
 }

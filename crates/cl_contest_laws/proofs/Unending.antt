@@ -1,5 +1,5 @@
 -- Where runs can still end, and where none does.
-use Rattle.std.proofs.Common.{◌≡◌, ℕ, sym, subst, List, ◌++◌, Bool, Some}
+use Rattle.std.proofs.Common.{◌≡◌, ℕ, refl, sym, subst, List, ◌++◌, Bool, Some}
 use Rattle.std.specs.Prelude.{IsTrue}
 use Rattle.std.specs.List.{slice_get}
 use Rattle.cl_machine.specs.declared.steps.Step.{Step}
@@ -9,19 +9,22 @@ use Rattle.cl_order_laws.specs.Sure.{GoesOn as GoesOnBy}
 use Rattle.cl_order_laws.proofs.Covered.{node_of}
 use Rattle.cl_outcome_laws.specs.Graphs.{Edges, IsTrap}
 use Rattle.cl_outcome_laws.specs.Unending.{MayEnd, NeverEnds}
-use Rattle.cl_outcome_laws.proofs.Paths.{may_after, may_follow, mirror}
+use Rattle.cl_outcome_laws.proofs.Paths.{may_after}
 use Rattle.cl_schedule_laws.proofs.Walks.{along}
+use Rattle.cl_reduction_laws.specs.Below.{AreAlike}
 use Rattle.cl_reduction_laws.specs.Clusters.{Search, State, cluster_machine}
 use Rattle.cl_reduction_laws.specs.Settled.{IsSettled, Settles}
+use Rattle.cl_reduction_laws.proofs.Awake.{clusters_awake}
 use Rattle.cl_reduction_laws.proofs.Clusters.{cluster_machine_law}
 use Rattle.cl_contest_laws.specs.Laws.{NeverEndsLaw}
 use Rattle.cl_contest_laws.specs.Lists.{IsClosedByContest, IsContestGraph, IsOneOf, StartsWell}
 use Rattle.cl_contest_laws.proofs.Asleep.{asleep}
 use Rattle.cl_contest_laws.proofs.Contest.{came, finds, node_alike}
 use Rattle.cl_contest_laws.proofs.Ends.{rest_too}
+use Rattle.cl_contest_laws.proofs.Good.{good_alike}
 use Rattle.cl_contest_laws.proofs.Kept.{AreClosed}
 use Rattle.cl_contest_laws.proofs.Lists.{IsInside, all_rest, graph_closed, inside_closed, is_end, list_closed, planned_of}
-use Rattle.cl_contest_laws.proofs.Rest.{alike_back}
+use Rattle.cl_contest_laws.proofs.Rest.{Alike, alike_back}
 use Rattle.cl_contest_laws.proofs.Walks.{IsPlanned, arrives, by_plans, walked, walks_on}
 
 -- a node settles, by itself
@@ -76,14 +79,55 @@ module _ (search : Search) (plans : Plans) (nodes : List Node) (edges : Edges) (
         trap.no_end to.0 to.1 to.4 to.2
         (subst (IsEnd plans) (sym to.3) (is_end search plans planned f.node.cluster rests))
 
-  -- ---- where each node may end
+  -- ---- where nodes may end
 
+  abbrev every : AreClosed search (IsOneOf nodes)
+  every = list_closed search plans planned nodes closed
+
+  -- from what is alike a node from which turns lead to an end, some do too
+  module _ (node : State search) (at : IsOneOf nodes node.cluster) (ends : MayEnd plans at.1) where
+    may_too : (d : State search) → Alike search d node → (here : Node) → here.cluster ≡ d.cluster → MayEnd plans here
+    may_too d alike here is =
+        let rs = (ends.1).0 in
+        let settles = node_settles search (IsOneOf nodes) every node at in
+        let w = walked search plans planned (IsOneOf nodes) every 0 node settles rs at.1 ends.0 (sym at.3) (ends.1).1 in
+        let there = arrives search plans planned (IsOneOf nodes) every 0 node settles rs (ends.0).cluster w in
+        let rest = all_rest search plans planned w.last.cluster
+        (end_at plans w.last.cluster (ends.0).cluster w.is ends.2) in
+        let t = along (cluster_machine search) (cluster_machine_law search) rs node d w.last
+        (alike_back search d node alike) w.walk w.inside in
+        let s = asleep search w.last there.within rest t.last t.alike in
+        let ranks = rs ++ s.0 in
+        let g = by_plans search plans planned ranks d s.1 here.had
+        (walks_on search plans planned rs s.0 d t.last s.1 t.walk s.2) in (
+          g.0,
+          (ranks, starts_at plans ranks here.had d.cluster here.cluster g.0 (sym is) g.1),
+          end_at plans (g.0).cluster (s.1).cluster g.2 (is_end search plans planned (s.1).cluster s.3),
+        )
+
+  -- along an edge
+  module _ (i j : ℕ) (from to : Node) (edge : IsTrue (edges i j)) (here : slice_get nodes i ≡ Some from)
+      (there : slice_get nodes j ≡ Some to) (steps : List Step) (run : IsRun start.cluster steps from.cluster)
+      (follow : FollowPlans plans start.had steps) where
+    path : MayEnd plans to → MayEnd plans from
+    path ends =
+        let c = came search plans nodes start well settled closed steps from.cluster run follow in
+        let l = graph.leads i j from to edge here there in
+        let settles = node_settles search (IsOneOf nodes) every c.last (i, from, here, sym c.is) in
+        let w = walked search plans planned (IsOneOf nodes) every 0 c.last settles (l.1).0 from l.0 c.is (l.1).1 in
+        let alike = clusters_awake search.wild w.last.cluster to.cluster
+        (subst (λ k. AreAlike search.wild k to.cluster) (sym w.is) l.2) in
+        let node : State search =
+        record {
+          cluster = to.cluster;
+          good = good_alike search w.last.cluster to.cluster alike w.last.good (graph.fit j to there).stands;
+        } in
+        may_after plans from l.0 l.1 (may_too node (j, to, there, refl) ends w.last alike l.0 (sym w.is))
+
+  -- wherever a run leads
   module _ (each : (i : ℕ) (node : Node) → slice_get nodes i ≡ Some node → MayEnd plans node)
       (steps : List Step) (end : Cluster) (run : IsRun start.cluster steps end)
       (follow : FollowPlans plans start.had steps) where
-    abbrev every : AreClosed search (IsOneOf nodes)
-    every = list_closed search plans planned nodes closed
-
     abbrev had : Turns
     had = had_after start.had steps
 
@@ -92,37 +136,16 @@ module _ (search : Search) (plans : Plans) (nodes : List Node) (edges : Edges) (
         let c = came search plans nodes start well settled closed steps end run follow in
         let f = finds search plans nodes start well settled closed steps end run follow in
         let at : IsOneOf nodes f.node.cluster = f.is in
-        let m = each at.0 at.1 at.2 in
-        let rs = (m.1).0 in
-        let settles = node_settles search (IsOneOf nodes) every f.node at in
-        let w = walked search plans planned (IsOneOf nodes) every 0 f.node settles rs at.1 m.0 (sym at.3) (m.1).1 in
-        let there = arrives search plans planned (IsOneOf nodes) every 0 f.node settles rs (m.0).cluster w in
-        let rest = all_rest search plans planned w.last.cluster
-        (end_at plans w.last.cluster (m.0).cluster w.is m.2) in
-        let t = along (cluster_machine search) (cluster_machine_law search) rs f.node f.there w.last
-        (alike_back search f.there f.node f.alike) w.walk w.inside in
-        let s = asleep search w.last there.within rest t.last t.alike in
-        let ranks = f.more ++ (rs ++ s.0) in
-        let whole = walks_on search plans planned f.more (rs ++ s.0) c.last f.there s.1 f.walk
-        (walks_on search plans planned rs s.0 f.there t.last s.1 t.walk s.2) in
-        let g = by_plans search plans planned ranks c.last s.1 had whole in (
-          g.0,
-          (ranks, starts_at plans ranks had c.last.cluster end g.0 c.is g.1),
-          end_at plans (g.0).cluster (s.1).cluster g.2 (is_end search plans planned (s.1).cluster s.3),
-        )
-
-path : (search : Search) (plans : Plans) (nodes : List Node) (edges : Edges) → IsContestGraph search plans nodes edges
-    → (i j : ℕ) (from to : Node) → IsTrue (edges i j) → slice_get nodes i ≡ Some from → slice_get nodes j ≡ Some to
-    → MayEnd plans to → MayEnd plans from
-path search plans nodes edges graph i j from to edge here there leads =
-    let l = graph.leads i j from to edge here there in
-    may_after plans from l.0 l.1 (may_follow plans l.0 to (mirror plans l.0 to l.2) leads)
+        let g = by_plans search plans planned f.more c.last f.there had f.walk in
+        may_after plans (node_of end had) g.0 (f.more, starts_at plans f.more had c.last.cluster end g.0 c.is g.1)
+        (may_too f.node at (each at.0 at.1 at.2) f.there f.alike g.0 g.2)
 
 pub never_ends_law : NeverEndsLaw
 never_ends_law = record {
   never = λ search plans nodes edges inside start well settled graph trap i node is there steps run follow.
       never search plans nodes edges start well settled graph inside trap i node is there steps run follow;
-  path = path;
+  path = λ search plans nodes edges start well settled graph i j from to edge here there steps run follow.
+      path search plans nodes edges start well settled graph i j from to edge here there steps run follow;
   may = λ search plans nodes edges start well settled graph each steps end run follow.
       may search plans nodes edges start well settled graph each steps end run follow;
 }

@@ -48,9 +48,11 @@ pub record NeverEndsLaw : Type 0 where
       → (steps : List Step) → IsRun start.cluster steps node.cluster → FollowPlans plans start.had steps
       → NeverEnds plans node
   -- where an edge leads to a node from which turns lead to an end, some do from the node before it
-  pub path : (search : Search) (plans : Plans) (nodes : List Node) (edges : Edges)
+  pub path : (search : Search) (plans : Plans) (nodes : List Node) (edges : Edges) (start : Node)
+      → StartsWell search plans start.cluster → IsSettled search (IsOneOf nodes) start.cluster
       → IsContestGraph search plans nodes edges
       → (i j : ℕ) (from to : Node) → IsTrue (edges i j) → slice_get nodes i ≡ Some from → slice_get nodes j ≡ Some to
+      → (steps : List Step) → IsRun start.cluster steps from.cluster → FollowPlans plans start.had steps
       → MayEnd plans to
       → MayEnd plans from
   -- where turns lead from each node to an end, some do wherever a run leads

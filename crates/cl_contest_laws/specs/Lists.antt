@@ -6,8 +6,9 @@ use Rattle.cl_machine.specs.Cluster.{Cluster}
 use Rattle.cl_order_laws.specs.Closed.{IsDone, Node, Plans}
 use Rattle.cl_order_laws.specs.Laws.{IsReached}
 use Rattle.cl_order_laws.specs.Sure.{WhereverLeads}
-use Rattle.cl_outcome_laws.specs.Graphs.{AreAlikeNodes, Edges}
+use Rattle.cl_outcome_laws.specs.Graphs.{Edges}
 use Rattle.cl_outcome_laws.specs.Unending.{IsAfter}
+use Rattle.cl_reduction_laws.specs.Below.{AreAlike}
 use Rattle.cl_reduction_laws.specs.Clusters.{IsGood, Search}
 use Rattle.cl_reduction_laws.specs.Settled.{IsFit, IsSettled, IsSingle}
 
@@ -43,7 +44,7 @@ pub record IsContestGraph (search : Search) (plans : Plans) (nodes : List Node) 
       → slice_get node.cluster.ranks r ≡ Some rank
       → IsDone (plans r) rank ⊎ WhereverLeads plans node r (HasEdge search nodes edges i)
   pub fit : (i : ℕ) (node : Node) → slice_get nodes i ≡ Some node → IsFit search node.cluster
-  -- turns lead along each edge
+  -- turns lead along each edge, to what is alike
   pub leads : (i j : ℕ) (from to : Node) → IsTrue (edges i j) → slice_get nodes i ≡ Some from → slice_get nodes j ≡ Some to
-      → (there : Node) × IsAfter plans from there × AreAlikeNodes plans there to
+      → (there : Node) × IsAfter plans from there × AreAlike search.wild there.cluster to.cluster
   pub well : (i : ℕ) (node : Node) → slice_get nodes i ≡ Some node → IsReached node.cluster

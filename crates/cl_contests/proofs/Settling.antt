@@ -196,7 +196,7 @@ settled_there search here there within alike = λ node same. (
       node,
       refl,
       likeness_law.on search.wild (awake_cluster here) (awake_cluster there) (awake_cluster node) alike
-          (clusters_awake search.wild there node (likeness_law.same search.wild there node same)),
+          (clusters_awake search.wild there node same),
     ),
   ),
 )

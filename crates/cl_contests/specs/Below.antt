@@ -2,4 +2,4 @@
 pub use Rattle.cl_reduction_laws.specs.Below.{AreAlike}
 pub use Rattle.cl_reduction_laws.specs.Clusters.{Search as Contest}
 pub use Rattle.cl_reduction_laws.specs.Settled.{IsFit, IsSettled, Settles as SettlesFirst}
-pub use Rattle.mp_source_laws.specs.Alike.{Wild}
+pub use Rattle.mp_source_laws.specs.Alike.{AlikeHubs, Wild, is_same}

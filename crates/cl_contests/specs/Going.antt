@@ -3,10 +3,11 @@ use Rattle.std.specs.Prelude.{ℕ, ◌≡◌, Bool, true, List}
 use Rattle.rv_image_types.specs.declared.images.ImageParts.{ImageParts}
 use Rattle.cl_machine.specs.Cluster.{Cluster}
 use Rattle.cl_order_laws.specs.Closed.{Node}
-use Rattle.cl_order_laws.specs.Laws.{AreAlike, IsReached}
+use Rattle.cl_order_laws.specs.Laws.{IsReached}
 use Rattle.cl_record.specs.Plans.{in_slot}
 use Rattle.cl_moves.specs.Standing.{IsWay, StandsAt, by_order}
 use Rattle.cl_moves.specs.declared.standing.Standing.{Standing}
+use Rattle.cl_reduction_laws.specs.Below.{AreAlike}
 use Rattle.cl_reduction_laws.specs.Clusters.{Search}
 use Rattle.cl_reduction_laws.specs.Settled.{IsFit, IsSettled}
 use Rattle.cl_contests.specs.declared.first.Went.{Went}
@@ -30,7 +31,8 @@ LeadsOn order old new P =
 
 -- whatever is alike the new one settles the old one
 abbrev pub IsSettledThere : Search → Cluster → Cluster → Type 0
-IsSettledThere search here there = (node : Cluster) → AreAlike there node → IsSettled search (λ c. c ≡ node) here
+IsSettledThere search here there =
+    (node : Cluster) → AreAlike search.wild there node → IsSettled search (λ c. c ≡ node) here
 
 -- where each rank asked within the patterns all the way, by each order that names the first hart alone
 abbrev pub GoesFirstOn : Search → Standing → Standing → Went → Type 0

@@ -1,5 +1,5 @@
 -- Clusters that are alike, from what was compared of them.
-use Rattle.std.specs.Prelude.{ℕ, suc, ◌+◌, ◌/◌, ◌%◌, ◌<◌, ◌≤◌, ◌≡◌, List, [], ◌∷◌, length, map, slice_get, Option, Some, None, true}
+use Rattle.std.specs.Prelude.{ℕ, suc, ◌+◌, ◌/◌, ◌%◌, ◌<◌, ◌≤◌, ◌≡◌, List, [], ◌∷◌, length, map, slice_get, Option, Some, None, IfSome, true}
 use Rattle.std.proofs.Common.{refl, sym, ap, ◌∙◌, subst, arith, inl, inr}
 use Rattle.std.proofs.lemmas.Bool.{cases_Bool, cases_eq}
 use Rattle.std.proofs.lemmas.Option.{slice_get_within}
@@ -7,8 +7,8 @@ use Rattle.rv_image_types.specs.declared.images.ImageParts.{ImageParts}
 use Rattle.part_box.specs.declared.settled.Settled.{Settled}
 use Rattle.mp_hub.specs.Hub.{HubView}
 use Rattle.mp_alike_laws.specs.Renaming.{Renaming}
-use Rattle.mp_alike_laws.specs.Alike.{AlikeHubs}
-use Rattle.mp_alike.specs.Names.{AreAlikeBy, IsListed}
+use Rattle.mp_alike_laws.specs.Alike.{AlikeHubs as SameHubs}
+use Rattle.mp_alike.specs.Names.{AreAlikeBy, AreLiveAlikeBy, IsListed}
 use Rattle.cl_state.specs.Rank.{Rank, loaded}
 use Rattle.cl_state.specs.Room.{rank_of}
 use Rattle.cl_state.specs.Same.{IsSameBeside}
@@ -19,12 +19,17 @@ use Rattle.cl_replay.specs.Boxes.{at_part, settled_at}
 use Rattle.cl_replay.proofs.Boxed.{shown_of_box}
 use Rattle.cl_order_laws.specs.Alike.{AlikeBoxes, AlikeRanks, AreEach, IsFull, hub_of}
 use Rattle.cl_order_laws.specs.Closed.{Node}
-use Rattle.cl_order_laws.specs.Laws.{AreAlike}
+use Rattle.cl_order_laws.specs.Laws.{AreAlike as AreSame}
+use Rattle.cl_contests.specs.Below.{AlikeHubs, Contest, is_same}
+use Rattle.cl_contests.specs.Kept.{search_of}
+use Rattle.cl_contests.specs.declared.patterns.AskedBy.{AskedBy}
 use Rattle.cl_contest_laws.proofs.Below.{comes_reached, same_site}
 use Rattle.cl_moves.specs.Standing.{StandsAt}
 use Rattle.cl_moves.specs.declared.standing.Standing.{Standing}
+use Rattle.cl_explore.specs.How.{AreAlikeIn, How, at_once, by_contest, how_of, plainly}
+use Rattle.cl_explore.specs.declared.course.Way.TheVariants as ways
 use Rattle.cl_explore.specs.Kept.{IsAlikeKept, IsFound, KeptStandsAt}
-use Rattle.cl_explore.specs.Likeness.{AreAlikeLinks, HaveSameSites, IsAlikeSettled}
+use Rattle.cl_explore.specs.Likeness.{AreAlikeLinks, AreNamedIn, HaveSameSites, IsAlikeSettled}
 use Rattle.cl_explore.specs.declared.kept.KeptNode.{KeptNode}
 use Rattle.cl_explore.proofs.Lists.{at_inside}
 
@@ -143,30 +148,94 @@ module _ (image : ImageParts) (order : List ℕ) (standing : Standing) (kept : K
       site_at other too r rank_too (ap (λ (rs : List Rank). slice_get rs r) stands.ranks_are ∙ there)
       ∙ sym (site_at one found r rank (ap (λ (rs : List Rank). slice_get rs r) (at.stands).ranks_are ∙ here))
 
-  pub clusters_alike : (names : List ℕ) → AreAlikeBy names standing.whole kept.whole
+  ranks_alike : (names : Renaming)
+      → AreEach (AlikeRanks names) (map rank_of standing.cluster.ranks.items) kept.cluster.ranks
+      → AreEach (AlikeRanks names) one.cluster.ranks other.cluster.ranks
+  ranks_alike names ranks =
+      subst (λ (rs : List Rank). AreEach (AlikeRanks names) rs other.cluster.ranks) (sym (at.stands).ranks_are)
+      (subst (λ (rs : List Rank). AreEach (AlikeRanks names) (map rank_of standing.cluster.ranks.items) rs)
+      (sym stands.ranks_are) ranks)
+
+  hubs_alike : (Alike : HubView → HubView → Type 0) → Alike standing.whole kept.whole
+      → Alike (hub_of one.cluster.journal) (hub_of other.cluster.journal)
+  hubs_alike Alike hubs =
+      subst (λ (h : HubView). Alike h (hub_of other.cluster.journal)) at.whole
+      (subst (λ (h : HubView). Alike standing.whole h) stands.whole hubs)
+
+  clusters_same : (names : Renaming) → SameHubs names standing.whole kept.whole
+      → AreAlikeLinks standing.cluster.boxes.items kept.cluster.boxes
+      → AreEach (AlikeRanks names) (map rank_of standing.cluster.ranks.items) kept.cluster.ranks
+      → AreSame one.cluster other.cluster
+  clusters_same names hubs boxes ranks = (
+    names,
+    record { ranks = ranks_alike names ranks; hubs = hubs_alike (SameHubs names) hubs; boxes = boxes_alike boxes },
+  )
+
+  pub clusters_alike : (how : How) (names : List ℕ) → AreNamedIn how names standing.whole kept.whole
       → AreAlikeLinks standing.cluster.boxes.items kept.cluster.boxes
       → ((naming : Renaming) → IsListed naming names
       → HaveSameSites (map rank_of standing.cluster.ranks.items) kept.cluster.ranks
       → AreEach (AlikeRanks naming) (map rank_of standing.cluster.ranks.items) kept.cluster.ranks)
-      → AreAlike one.cluster other.cluster
-  clusters_alike names hubs boxes ranks = (
+      → AreAlikeIn how one.cluster other.cluster
+  clusters_alike (by_contest contest) names hubs boxes ranks = (
     hubs.names,
     record {
-      ranks = subst (λ (rs : List Rank). AreEach (AlikeRanks hubs.names) rs other.cluster.ranks) (sym (at.stands).ranks_are)
-          (subst (λ (rs : List Rank). AreEach (AlikeRanks hubs.names) (map rank_of standing.cluster.ranks.items) rs)
-          (sym stands.ranks_are) (ranks hubs.names hubs.listed same_sites));
-      hubs = subst (λ (h : HubView). AlikeHubs hubs.names h (hub_of other.cluster.journal)) at.whole
-          (subst (λ (h : HubView). AlikeHubs hubs.names standing.whole h) stands.whole hubs.alike);
+      ranks = ranks_alike hubs.names (ranks hubs.names hubs.listed same_sites);
+      hubs = hubs_alike (AlikeHubs contest.wild hubs.names) hubs.alike;
       boxes = boxes_alike boxes;
     },
   )
+  clusters_alike at_once names hubs boxes ranks =
+      clusters_same hubs.names hubs.alike boxes (ranks hubs.names hubs.listed same_sites)
+  clusters_alike plainly names hubs boxes ranks =
+      clusters_same hubs.names hubs.alike boxes (ranks hubs.names hubs.listed same_sites)
 
-pub standing_alike : (standing : Standing) (kept : KeptNode) (names : List ℕ)
-    → AreAlikeBy names standing.whole kept.whole
+pub standing_alike : (how : How) (standing : Standing) (kept : KeptNode) (names : List ℕ)
+    → AreNamedIn how names standing.whole kept.whole
     → AreAlikeLinks standing.cluster.boxes.items kept.cluster.boxes
     → ((naming : Renaming) → IsListed naming names
     → HaveSameSites (map rank_of standing.cluster.ranks.items) kept.cluster.ranks
     → AreEach (AlikeRanks naming) (map rank_of standing.cluster.ranks.items) kept.cluster.ranks)
-    → (order : List ℕ) → IsAlikeKept order standing kept
-standing_alike standing kept names hubs boxes ranks order = λ image one other at stands found too.
-    clusters_alike image order standing kept one other at stands found too names hubs boxes ranks
+    → (order : List ℕ) → IsAlikeKept how order standing kept
+standing_alike how standing kept names hubs boxes ranks order = λ image one other at stands found too.
+    clusters_alike image order standing kept one other at stands found too how names hubs boxes ranks
+
+-- ---- hubs, as they are compared
+
+-- likeness that keeps the order of all messages is likeness
+by_source : (contest : Contest) (names : Renaming) (a b : HubView) → SameHubs names a b → AlikeHubs contest.wild names a b
+by_source contest names a b same = record {
+  links = same.links;
+  board = record {
+    many = (same.board).many;
+    next = (same.board).next;
+    lines = λ place. is_same ((same.board).lines place);
+    bodies = (same.board).bodies;
+    claims = (same.board).claims;
+    ranks = λ i j m n below here there by live alive. (same.board).ranks i j m n below here there by;
+    sends = λ i j s t below here there dest comm any. (same.board).sends i j s t below here there dest comm;
+  };
+  claims = same.claims;
+  sides = same.sides;
+  reserved = same.reserved;
+  senders = same.senders;
+}
+
+pub named_in : (how : How) (names : List ℕ) (a b : HubView) → AreAlikeBy names a b → AreNamedIn how names a b
+named_in (by_contest contest) names a b is =
+    record { names = is.names; listed = is.listed; alike = by_source contest is.names a b is.alike }
+named_in at_once names a b is = record { names = is.names; listed = is.listed; alike = is.alike }
+named_in plainly names a b is = record { names = is.names; listed = is.listed; alike = is.alike }
+
+-- in each search of some kind
+pub if_named : {A : Type 0} (how : A → How) (a b : HubView) (found : Option (List ℕ))
+    → IfSome found (λ names. AreAlikeBy names a b) → IfSome found (λ names. (its : A) → AreNamedIn (how its) names a b)
+if_named how a b None is = tt
+if_named how a b (Some names) is = λ its. named_in (how its) names a b is
+
+-- where turns go first, posts that are over may be any that are
+pub if_live_named : (a b : HubView) (found : Option (List ℕ)) → IfSome found (λ names. AreLiveAlikeBy names a b)
+    → IfSome found (λ names. (asked : List AskedBy) → AreNamedIn (how_of ways.First asked) names a b)
+if_live_named a b None is = tt
+if_live_named a b (Some names) is =
+    λ asked. record { names = is.names; listed = is.listed; alike = is.alike (search_of asked).wild }

@@ -14,7 +14,7 @@ use Rattle.cl_state.specs.Rank.{Rank}
 use Rattle.cl_state.specs.Room.{rank_of}
 use Rattle.cl_state.specs.declared.state.RankState.{RankState}
 use Rattle.cl_order_laws.specs.Closed.{IsCovered, IsDone, IsSamePlace, Node, Plans, one_more}
-use Rattle.cl_order_laws.specs.Laws.{AreAlike, IsReached}
+use Rattle.cl_order_laws.specs.Laws.{AreAlike as AreSame, IsReached}
 use Rattle.cl_order_laws.specs.Sure.{Settles}
 use Rattle.cl_order_laws.proofs.Covered.{covered_among, covered_on, only_one}
 use Rattle.cl_order_laws.proofs.Likeness.{itself}
@@ -30,9 +30,10 @@ use Rattle.cl_contests.specs.Below.{Contest}
 use Rattle.cl_contests.specs.Below.{SettlesFirst}
 use Rattle.cl_contest_laws.specs.Lists.{IsOneOf}
 use Rattle.cl_contests.specs.Going.{IsSettledThere, LeadsOn}
-use Rattle.cl_explore.specs.How.{How, IsUncontested, at_once, by_contest, plainly}
+use Rattle.cl_contests.proofs.Below.{source_law}
+use Rattle.cl_explore.specs.How.{AreAlikeFor, AreAlikeIn, How, IsUncontested, at_once, by_contest, plainly}
 use Rattle.cl_explore.specs.Covering.{AreJoined, AreLeads, AreNodes, Grows, HasLead, IsClosedAt, IsClosedFrom, IsReachedFrom, IsReachedTurn, LeadsGrow, Reaches}
-use Rattle.cl_explore.specs.Searching.{Arrives, GoesOn, IsFoundIn}
+use Rattle.cl_explore.specs.Searching.{Adds, Arrives, GoesOn, IsFoundIn}
 use Rattle.cl_explore.specs.declared.kept.KeptNode.{KeptNode}
 use Rattle.cl_explore.specs.declared.leads.Lead.{Lead}
 use Rattle.cl_explore.proofs.Lists.{at_inside, at_last, stays_at, was_or_new}
@@ -228,16 +229,16 @@ closed_over how order leads i nodes node r closed = λ rank at. elim (closed ran
 ]
 
 -- what leads there are still lead between nodes that grow
-pub leads_more : (order : List ℕ) (nodes more : List Node) (leads : List Lead) → Grows nodes more
-    → AreLeads order nodes leads → AreLeads order more leads
-leads_more order nodes more leads grows are = λ k lead at.
+pub leads_more : (how : How) (order : List ℕ) (nodes more : List Node) (leads : List Lead) → Grows nodes more
+    → AreLeads how order nodes leads → AreLeads how order more leads
+leads_more how order nodes more leads grows are = λ k lead at.
     let v = are k lead at in
     (v.0, v.1, grows lead.from v.0 v.2, grows lead.to v.1 v.3, v.4)
 
-pub leads_on : (order : List ℕ) (nodes : List Node) (leads : List Lead) (lead : Lead) (from to : Node)
-    → AreLeads order nodes leads → slice_get nodes lead.from ≡ Some from → slice_get nodes lead.to ≡ Some to
-    → AreJoined order from to → AreLeads order nodes (leads ++ lead ∷ [])
-leads_on order nodes leads lead from to are start end joined = λ k x at. elim (was_or_new leads lead k x at) [
+pub leads_on : (how : How) (order : List ℕ) (nodes : List Node) (leads : List Lead) (lead : Lead) (from to : Node)
+    → AreLeads how order nodes leads → slice_get nodes lead.from ≡ Some from → slice_get nodes lead.to ≡ Some to
+    → AreJoined how order from to → AreLeads how order nodes (leads ++ lead ∷ [])
+leads_on how order nodes leads lead from to are start end joined = λ k x at. elim (was_or_new leads lead k x at) [
   | inl was ↦ are k x was
   | inr new ↦
       let is : lead ≡ x = same_Some lead x new.1 in (
@@ -315,7 +316,7 @@ goes_uncontested order contest old new leads = λ image start here stands way re
       v.1,
       v.2,
       λ node alike.
-          let settled = v.3 node.cluster (alike.names, alike.alike) in (
+          let settled = v.3 node.cluster alike in (
             settled.0,
             settled_into contest (λ c. c ≡ node.cluster) (IsOneOf (node ∷ []))
                 (λ c is. same_there node.cluster c is node refl) settled.0 here.cluster settled.1,
@@ -339,10 +340,10 @@ by_state image live node at rank P each x here =
     of None is mapped = absurd (cc)
     of (Some own) is mapped = subst P (same_Some (rank_of own) x mapped) (each own is)
 
-pub alike_found : (image : ImageParts) (order : List ℕ) (standing : Standing) (k : KeptNode) (here node : Node)
-    → StandsAt image standing here → KeptStandsAt image k node → AreAlike here.cluster node.cluster
+same_found : (image : ImageParts) (order : List ℕ) (standing : Standing) (k : KeptNode) (here node : Node)
+    → StandsAt image standing here → KeptStandsAt image k node → AreSame here.cluster node.cluster
     → AreSamePlaces order standing k.had.items → AreAlikeNodes (by_order order) here node
-alike_found image order standing k here node at kept alike same = record {
+same_found image order standing k here node at kept alike same = record {
   names = alike.0;
   alike = alike.1;
   places = λ r rank there.
@@ -358,17 +359,32 @@ alike_found image order standing k here node at kept alike same = record {
       ];
 }
 
-pub alike_itself : (order : List ℕ) (here : Node) → IsReached here.cluster → AreAlikeNodes (by_order order) here here
-alike_itself order here reached = record {
+alike_found : (how : How) (image : ImageParts) (order : List ℕ) (standing : Standing) (k : KeptNode) (here node : Node)
+    → StandsAt image standing here → KeptStandsAt image k node → AreAlikeIn how here.cluster node.cluster
+    → AreSamePlaces order standing k.had.items → AreAlikeFor how order here node
+alike_found (by_contest contest) image order standing k here node at kept alike same = alike
+alike_found at_once image order standing k here node at kept alike same =
+    same_found image order standing k here node at kept alike same
+alike_found plainly image order standing k here node at kept alike same =
+    same_found image order standing k here node at kept alike same
+
+same_itself : (order : List ℕ) (here : Node) → IsReached here.cluster → AreAlikeNodes (by_order order) here here
+same_itself order here reached = record {
   names = no_renaming;
   alike = itself here.cluster reached;
   places = λ r rank there. inl (λ k. refl);
 }
 
+alike_itself : (how : How) (order : List ℕ) (here : Node) → IsReached here.cluster → AreAlikeFor how order here here
+alike_itself (by_contest contest) order here reached =
+    source_law.same contest.wild here.cluster here.cluster (no_renaming, itself here.cluster reached)
+alike_itself at_once order here reached = same_itself order here reached
+alike_itself plainly order here reached = same_itself order here reached
+
 -- alike a node that is kept
-pub arrives_found : (order : List ℕ) (kept : List KeptNode) (parent i : ℕ) (standing : Standing)
-    → IsFoundIn order kept standing i → Arrives order kept parent standing kept i
-arrives_found order kept parent i standing in_it = λ image nodes before here are at from way.
+pub arrives_found : (how : How) (order : List ℕ) (kept : List KeptNode) (parent i : ℕ) (standing : Standing)
+    → IsFoundIn how order kept standing i → Arrives how order kept parent standing kept i
+arrives_found how order kept parent i standing in_it = λ image nodes before here are at from way.
     let v = are.each i in_it.0 in_it.1 in
     record {
       more = nodes;
@@ -377,7 +393,7 @@ arrives_found order kept parent i standing in_it = λ image nodes before here ar
       holds = (
         v.0,
         v.1,
-        alike_found image order standing in_it.0 here v.0 at v.2
+        alike_found how image order standing in_it.0 here v.0 at v.2
             (in_it.2 image here v.0 at v.2 (start_found image order kept nodes are parent before here standing.steps.items from way)
             (node_found image order kept nodes are i v.0 v.1)) in_it.3,
       );
@@ -407,27 +423,39 @@ stayed_since image order kept (x ∷ nodes) parent standing before here are at f
     have_stayed image order k standing before here (subst (KeptStandsAt image k) same v.2) at way
 
 -- kept as one more
-pub arrives_new : (order : List ℕ) (kept new : List KeptNode) (parent number : ℕ) (standing : Standing) (k : KeptNode)
-    (cluster : RanksAt) → number ≡ length kept → (HaveStayedSince kept parent standing → cluster ≡ ranks_at standing.cluster)
-    → IsKeptAs standing cluster parent k → new ≡ kept ++ k ∷ [] → Arrives order kept parent standing new number
-arrives_new order kept new parent number standing k cluster last beside keeps same = λ image nodes before here are at from way.
-    let is = kept_of standing parent k cluster keeps
-    (beside (stayed_since image order kept nodes parent standing before here are at from way)) in
+pub adds_new : (order : List ℕ) (kept new : List KeptNode) (parent number : ℕ) (standing : Standing)
+    (k : KeptNode) (cluster : RanksAt) → number ≡ length kept → (HaveStayedSince kept parent standing → cluster ≡ ranks_at standing.cluster)
+    → IsKeptAs standing cluster parent k → new ≡ kept ++ k ∷ [] → Adds order kept parent standing new number
+adds_new order kept new parent number standing k cluster last beside keeps same = (
+  (k, same),
+  λ image nodes before here are at from way.
+      let is = kept_of standing parent k cluster keeps
+      (beside (stayed_since image order kept nodes parent standing before here are at from way)) in
+      record {
+        more = nodes ++ here ∷ [];
+        grows = λ i node there. stays_at nodes here i node there;
+        are = subst (λ ks. AreNodes image order ks (nodes ++ here ∷ [])) (sym same)
+            (are_more image order kept nodes k here are (kept_stands image standing parent k here is at)
+            (record {
+              before = before;
+              from = subst (λ p. IsBefore image nodes p (length nodes) before) (sym is.parent_is) from;
+              way = subst (λ es. IsWay (by_order order) before es here) (sym is.turns) way;
+            }));
+        holds = subst (λ n. slice_get (nodes ++ here ∷ []) n ≡ Some here) (are.many ∙ sym last) (at_last nodes here);
+      },
+)
+
+-- and the standing is alike it
+pub arrives_new : (how : How) (order : List ℕ) (kept new : List KeptNode) (parent number : ℕ) (standing : Standing)
+    → Adds order kept parent standing new number
+    → Arrives how order kept parent standing new number
+arrives_new how order kept new parent number standing adds = λ image nodes before here are at from way.
+    let far = adds.1 image nodes before here are at from way in
     let reached = found_reached image order here
     (start_found image order kept nodes are parent before here standing.steps.items from way) in
     record {
-      more = nodes ++ here ∷ [];
-      grows = λ i node there. stays_at nodes here i node there;
-      are = subst (λ ks. AreNodes image order ks (nodes ++ here ∷ [])) (sym same)
-          (are_more image order kept nodes k here are (kept_stands image standing parent k here is at)
-          (record {
-            before = before;
-            from = subst (λ p. IsBefore image nodes p (length nodes) before) (sym is.parent_is) from;
-            way = subst (λ es. IsWay (by_order order) before es here) (sym is.turns) way;
-          }));
-      holds = (
-        here,
-        subst (λ n. slice_get (nodes ++ here ∷ []) n ≡ Some here) (are.many ∙ sym last) (at_last nodes here),
-        alike_itself order here reached,
-      );
+      more = far.more;
+      grows = far.grows;
+      are = far.are;
+      holds = (here, far.holds, alike_itself how order here reached);
     }

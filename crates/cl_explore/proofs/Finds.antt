@@ -45,7 +45,7 @@ no_nodes image order = record { many = refl; each = λ i k at. absurd (cc) }
 
 pub begins : (how : How) (order : List ℕ) (none : List KeptNode) (new : Search) (number : ℕ) (start there : Standing)
     → none ≡ [] → new.leads.items ≡ [] → GoesOn how order start there
-    → Arrives order none 0 there new.nodes.items number → BeginsAt how order start new
+    → Arrives how order none 0 there new.nodes.items number → BeginsAt how order start new
 begins how order none new number start there empty still ahead arrives = λ image here stands way.
     let first = first_node image in
     let plans = by_order order in
@@ -65,7 +65,7 @@ begins how order none new number start there empty still ahead arrives = λ imag
 pub record SoFar (how : How) (image : ImageParts) (order : List ℕ) (start : Node) (search : Search)
     (ends : List ℕ) (companies : List Company) (done : ℕ) : Type 0 where
   pub nodes : List Node
-  pub found : AreFound image order search nodes
+  pub found : AreFound how image order search nodes
   pub start_is : Reaches how order nodes start
   pub closed : (i r : ℕ) (node : Node) → i < done → slice_get nodes i ≡ Some node
       → IsClosedFrom how order search.leads.items i nodes node r
@@ -169,7 +169,7 @@ ends_noted ends now done false notes = subst (λ xs. EndsNoted ends xs done fals
 module _ (how : How) (image : ImageParts) (order : List ℕ) (start : Node) (old new : Search) (ends now : List ℕ)
     (companies after : List Company) (done : ℕ) (explored : SoFar how image order start old ends companies done)
     (inside : done < length old.nodes.items) (room : HasRoomAt how old.nodes.items done) (visit : Visit)
-    (visits : KeepsOf order old done new (IsVisited how order new.leads.items done visit)) where
+    (visits : KeepsOf how order old done new (IsVisited how order new.leads.items done visit)) where
   abbrev nodes : List Node
   nodes = explored.nodes
 
@@ -181,7 +181,7 @@ module _ (how : How) (image : ImageParts) (order : List ℕ) (start : Node) (old
       let v = led_at image order old.nodes.items nodes (explored.found).are done node.0 node.1 in
       subst (HasRoom how) (v.2).whole (room v.0 v.1)
 
-  far : FindsMore image order old nodes new (λ more. IsVisited how order new.leads.items done visit image more node.0)
+  far : FindsMore how image order old nodes new (λ more. IsVisited how order new.leads.items done visit image more node.0)
   far = visits image nodes node.0 explored.found node.1
 
   there : slice_get far.more done ≡ Some node.0
@@ -321,7 +321,7 @@ module _ (how : How) (image : ImageParts) (order : List ℕ) (start : Node) (sea
       start_is = explored.start_is;
       begins = begins_well;
       room = room;
-      leads = subst (AreLeads order them) (sym leads) (explored.found).leads;
+      leads = subst (AreLeads how order them) (sym leads) (explored.found).leads;
       follows = λ i r node visited.
           subst (λ ls. IsClosedFrom how order ls i them node r) (sym leads)
           (explored.closed i r node (low i visited.0) visited.1);
@@ -360,7 +360,7 @@ none_from how order standing search ends companies begun none nobody = λ image 
 pub more_from : (how : How) (order : List ℕ) (standing : Standing) (old new : Search) (ends now : List ℕ)
     (companies after : List Company) (done : ℕ) → SoFarFrom how order standing old ends companies done
     → done < length old.nodes.items → HasRoomAt how old.nodes.items done → (visit : Visit)
-    → KeepsOf order old done new (IsVisited how order new.leads.items done visit) → Notes ends visit.end done now
+    → KeepsOf how order old done new (IsVisited how order new.leads.items done visit) → Notes ends visit.end done now
     → NotesStuck companies (option_map (λ ranks. ranks.items) visit.stuck) done after
     → SoFarFrom how order standing new now after (done + 1)
 more_from how order standing old new ends now companies after done so_far inside room visit visits notes stuck =

@@ -6,6 +6,7 @@ pub mod Staying
 pub mod Covers
 pub mod Following
 pub mod Tries
+pub mod Dives
 pub mod Finds
 pub mod Alike
 pub mod Ordering

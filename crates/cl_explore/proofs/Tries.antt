@@ -78,7 +78,7 @@ module _ (order : List ℕ) (old : List KeptNode) (n : ℕ) (k : KeptNode) (at :
 -- it has: where it leads is kept, or alike a node, to which a move led, and then the standing is at the node again
 pub goes_on : (how : How) (order : List ℕ) (old new : Search) (n number : ℕ) (lead : Lead) (e : Step)
     (live mid there after : Standing) → lead.from ≡ n → lead.to ≡ number → new.leads.items ≡ old.leads.items ++ lead ∷ []
-    → Took live e mid → GoesOn how order mid there → Arrives order old.nodes.items n there new.nodes.items number
+    → Took live e mid → GoesOn how order mid there → Arrives how order old.nodes.items n there new.nodes.items number
     → ((k : KeptNode) → slice_get new.nodes.items n ≡ Some k → HaveStayed k there → IsLiveOf k after)
     → Goes how order old n live e new after
 goes_on how order old new n number lead e live mid there after from to longer took ahead arrives back =
@@ -102,9 +102,9 @@ goes_on how order old new n number lead e live mid there after from to longer to
         grows = kept.grows;
         found = record {
           are = kept.are;
-          leads = subst (AreLeads order kept.more) (sym longer)
-              (leads_on order kept.more old.leads.items lead node next
-              (leads_more order nodes kept.more old.leads.items kept.grows found.leads) start stop
+          leads = subst (AreLeads how order kept.more) (sym longer)
+              (leads_on how order kept.more old.leads.items lead node next
+              (leads_more how order nodes kept.more old.leads.items kept.grows found.leads) start stop
               (record { steps = there.steps.items; there = far.0; way = far.2; alike = (kept.holds).2 }));
         };
         leads = λ i x was. subst (λ ls. slice_get ls i ≡ Some x) (sym longer) (stays_at old.leads.items lead i x was);
@@ -135,7 +135,7 @@ goes_on how order old new n number lead e live mid there after from to longer to
 -- no such node is kept then either
 pub goes_past : (how : How) (order : List ℕ) (old new : Search) (n number : ℕ) (e : Step)
     (live mid there after : Standing) → Took live e mid → GoesOn how order mid there
-    → Arrives order old.nodes.items n there new.nodes.items number → length new.nodes.items ≤ n
+    → Arrives how order old.nodes.items n there new.nodes.items number → length new.nodes.items ≤ n
     → Goes how order old n live e new after
 goes_past how order old new n number e live mid there after took ahead arrives past =
     λ image nodes node found here at planned.
@@ -152,7 +152,7 @@ goes_past how order old new n number e live mid there after took ahead arrives p
 -- of those that are left nothing is said yet, and the others are covered
 abbrev pub GoneFrom : How → List ℕ → Search → ℕ → Standing → List Step → List Step → Search → Standing → Type 0
 GoneFrom how order old n live turns left new after =
-    KeepsAt order old n live new after (λ node. ArePlanned order node turns)
+    KeepsAt how order old n live new after (λ node. ArePlanned order node turns)
     (λ more node. (i : ℕ) (e : Step) → slice_get turns i ≡ Some e
     → (slice_get left i ≡ Some e) ⊎ IsReachedTurn how order new.leads.items n more node e)
 
@@ -289,7 +289,7 @@ closed_by how order old new n live after rank hart turns next all own goes = λ 
 -- where a standing is the node, its first so many ranks are closed
 abbrev pub ClosesBelow : How → List ℕ → Search → ℕ → Standing → ℕ → Search → Standing → Type 0
 ClosesBelow how order old n live count new after =
-    KeepsAt order old n live new after (λ node. Unit {0})
+    KeepsAt how order old n live new after (λ node. Unit {0})
     (λ more node. AreClosedBelow how order new.leads.items n count more node)
 
 pub none_closed : (how : How) (order : List ℕ) (old : Search) (n : ℕ) (live : Standing)
@@ -334,7 +334,7 @@ pub visited : (how : How) (order : List ℕ) (old new : Search) (n : ℕ) (k : K
     → IsDeadlockVerdict after.cluster (option_map (λ ranks. ranks.items) visit.stuck)
     → ((image : ImageParts) (here : Node) → StandsAt image live here → IsFitFor how here.cluster)
     → ClosesBelow how order old n live count new after
-    → KeepsOf order old n new (IsVisited how order new.leads.items n visit)
+    → KeepsOf how order old n new (IsVisited how order new.leads.items n visit)
 visited how order old new n k at live after is count visit enough tells verdict fits below = λ image nodes node found there.
     let here = live_at order old.nodes.items n k at live is image nodes node found.are there in
     let stands = here.stands in

@@ -10,10 +10,9 @@ use Rattle.cl_order_laws.specs.Closed.{IsCovered, IsDone, Node, one_more}
 use Rattle.cl_order_laws.specs.Sure.{IsSettledBy}
 use Rattle.cl_contests.specs.Below.{IsSettled}
 use Rattle.cl_contest_laws.specs.Lists.{IsOneOf}
-use Rattle.cl_contest_laws.specs.Below.{AreAlikeNodes}
 use Rattle.cl_moves.specs.Standing.{IsWay, by_order, node_of}
 use Rattle.cl_moves.specs.Posts.{most_posts}
-use Rattle.cl_explore.specs.How.{HasRoom, How, at_once, by_contest, plainly}
+use Rattle.cl_explore.specs.How.{AreAlikeFor, HasRoom, How, at_once, by_contest, plainly}
 use Rattle.cl_explore.specs.Kept.{IsLed, KeptStandsAt}
 use Rattle.cl_explore.specs.declared.kept.KeptNode.{KeptNode}
 use Rattle.cl_explore.specs.declared.leads.Lead.{Lead}
@@ -29,8 +28,8 @@ pub record AreNodes (image : ImageParts) (order : List ℕ) (kept : List KeptNod
       → (node : Node) × (slice_get nodes i ≡ Some node) × KeptStandsAt image k node × IsLed image order nodes i k node
 
 -- the node of this number is alike this one
-abbrev pub IsAlikeAt : List ℕ → List Node → ℕ → Node → Type 0
-IsAlikeAt order nodes i here = (node : Node) × (slice_get nodes i ≡ Some node) × AreAlikeNodes (by_order order) here node
+abbrev pub IsAlikeAt : How → List ℕ → List Node → ℕ → Node → Type 0
+IsAlikeAt how order nodes i here = (node : Node) × (slice_get nodes i ≡ Some node) × AreAlikeFor how order here node
 
 -- ---- where moves led
 
@@ -39,18 +38,18 @@ abbrev pub HasLead : List Lead → ℕ → ℕ → Type 0
 HasLead leads i j = (k : ℕ) × (lead : Lead) × (slice_get leads k ≡ Some lead) × (lead.from ≡ i) × (lead.to ≡ j)
 
 -- turns by the order lead from the one node to one that is alike the other
-pub record AreJoined (order : List ℕ) (from to : Node) : Type 0 where
+pub record AreJoined (how : How) (order : List ℕ) (from to : Node) : Type 0 where
   pub steps : List Step
   pub there : Node
   pub way : IsWay (by_order order) from steps there
-  pub alike : AreAlikeNodes (by_order order) there to
+  pub alike : AreAlikeFor how order there to
 
 -- and so from the first node of each lead to its second
-abbrev pub AreLeads : List ℕ → List Node → List Lead → Type 0
-AreLeads order nodes leads =
+abbrev pub AreLeads : How → List ℕ → List Node → List Lead → Type 0
+AreLeads how order nodes leads =
     (k : ℕ) (lead : Lead) → slice_get leads k ≡ Some lead
     → (from : Node) × (to : Node) × (slice_get nodes lead.from ≡ Some from) × (slice_get nodes lead.to ≡ Some to)
-    × AreJoined order from to
+    × AreJoined how order from to
 
 -- each lead stands where it stood
 abbrev pub LeadsGrow : List Lead → List Lead → Type 0

@@ -73,7 +73,7 @@ pub record ExploredFrom (image : ImageParts) (order : List ℕ) (start : Node) (
   pub start_is : Reaches how order nodes start
   pub begins : MayBegin how image order start
   pub room : HasRoom how (hub_of start.cluster.journal)
-  pub leads : AreLeads order nodes found.leads
+  pub leads : AreLeads how order nodes found.leads
   pub follows : (i r : ℕ) (node : Node) → IsVisitedNode nodes found.left i node
       → IsClosedFrom how order found.leads i nodes node r
   pub closed : (i r : ℕ) (node : Node) → IsVisitedNode nodes found.left i node → IsClosedAt how order nodes node r
@@ -102,6 +102,11 @@ ExploresFrom how order standing found =
     (image : ImageParts) (here : Node) → StandsAt image standing here
     → IsWay (by_order order) (first_node image) standing.steps.items here → MayBegin how image order here
     → (explored : ExploredFrom image order here found) × (explored.how ≡ how)
+
+-- what was told is still so, from whichever node the search began at
+abbrev pub StillExplores : How → List ℕ → Findings → Findings → Type 0
+StillExplores how order before after =
+    (standing : Standing) → ExploresFrom how order standing before → ExploresFrom how order standing after
 
 -- from where these turns lead
 pub record ExploredBehind (image : ImageParts) (order : List ℕ) (turns : List Turn) (found : Findings) : Type 0 where

@@ -2,12 +2,13 @@
 use Rattle.std.specs.Prelude.{ℕ, ◌<◌, ◌≡◌, List, length}
 use Rattle.cl_machine.specs.Cluster.{Cluster}
 use Rattle.cl_order_laws.specs.Closed.{Node}
+use Rattle.cl_order_laws.specs.Laws.{AreAlike as AreSame}
 use Rattle.mp_hub.specs.Hub.{HubView}
 use Rattle.cl_moves.specs.Posts.{most_posts}
 use Rattle.cl_moves.specs.Standing.{by_order, first_node}
 use Rattle.rv_image_types.specs.declared.images.ImageParts.{ImageParts}
-use Rattle.cl_contests.specs.Below.{Contest}
-use Rattle.cl_contests.specs.Below.{IsFit}
+use Rattle.cl_contests.specs.Below.{AreAlike, Contest, IsFit}
+use Rattle.cl_contest_laws.specs.Below.{AreAlikeNodes}
 use Rattle.cl_contest_laws.specs.Lists.{StartsWell}
 use Rattle.cl_contests.specs.Kept.{search_of}
 use Rattle.cl_contests.specs.declared.patterns.AskedBy.{AskedBy}
@@ -35,6 +36,19 @@ how_in manner = how_of manner.way manner.patterns.now.kept.items
 abbrev pub IsUncontested : How → Type 0
 IsUncontested (by_contest contest) = ⊥
 IsUncontested _ = Unit {0}
+
+-- ---- which nodes are alike
+
+-- clusters as this search compares them: where turns go first that nobody contests, whatever the order of messages from
+-- different sources where nobody asks for any source
+abbrev pub AreAlikeIn : How → Cluster → Cluster → Type 0
+AreAlikeIn (by_contest contest) one other = AreAlike contest.wild one other
+AreAlikeIn _ one other = AreSame one other
+
+-- nodes, at the same places of the order; there each rank has one hart
+abbrev pub AreAlikeFor : How → List ℕ → Node → Node → Type 0
+AreAlikeFor (by_contest contest) order one other = AreAlike contest.wild one.cluster other.cluster
+AreAlikeFor _ order one other = AreAlikeNodes (by_order order) one other
 
 -- ---- what has to be known of a cluster, beside what is reached from it
 

@@ -11,9 +11,9 @@ use Rattle.cl_replay.specs.States.{ClusterStandsFor, IsClusterOf}
 use Rattle.cl_record.specs.Keys.{ShowsAll}
 use Rattle.cl_order_laws.specs.Alike.{hub_of}
 use Rattle.cl_order_laws.specs.Closed.{IsDone, Node}
-use Rattle.cl_order_laws.specs.Laws.{AreAlike}
 use Rattle.cl_moves.specs.Standing.{HaveHad, IsWay, StandsAt, by_order, first_node}
 use Rattle.cl_moves.specs.declared.standing.Standing.{Standing}
+use Rattle.cl_explore.specs.How.{AreAlikeIn, How}
 use Rattle.cl_explore.specs.declared.kept.KeptNode.{KeptNode}
 
 -- the cluster that a node keeps: its ranks and boxes, with the hub of all posts ever made, which is the cluster's
@@ -77,10 +77,10 @@ pub record IsLed (image : ImageParts) (order : List ℕ) (nodes : List Node) (i 
   pub way : IsWay (by_order order) before kept.turns node
 
 -- whichever nodes they are, to which runs led, their clusters are alike
-abbrev pub IsAlikeKept : List ℕ → Standing → KeptNode → Type 0
-IsAlikeKept order standing kept =
+abbrev pub IsAlikeKept : How → List ℕ → Standing → KeptNode → Type 0
+IsAlikeKept how order standing kept =
     (image : ImageParts) (one other : Node) → StandsAt image standing one → KeptStandsAt image kept other
-    → IsFound image order one → IsFound image order other → AreAlike one.cluster other.cluster
+    → IsFound image order one → IsFound image order other → AreAlikeIn how one.cluster other.cluster
 
 -- all harts of the rank of this number are stopped
 abbrev pub IsDoneAt : List ℕ → Standing → ℕ → Type 0

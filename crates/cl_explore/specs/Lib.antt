@@ -3,6 +3,7 @@ pub mod Kept
 pub mod Covering
 pub mod Companies
 pub mod Searching
+pub mod Diving
 pub mod Orders
 pub mod Ends
 pub mod Visiting

@@ -1,7 +1,26 @@
 -- What is compared of a standing and a node that is kept, part by part.
 use Rattle.std.specs.Prelude.{ℕ, ◌≡◌, List, length, slice_get, Some}
 use Rattle.part_box.specs.declared.settled.Settled.{Settled}
+use Rattle.mp_hub.specs.Hub.{HubView}
+use Rattle.mp_alike_laws.specs.Renaming.{Renaming}
+use Rattle.mp_alike_laws.specs.Alike.{AlikeHubs as SameHubs}
+use Rattle.mp_alike.specs.Names.{IsListed}
 use Rattle.cl_state.specs.Rank.{Rank}
+use Rattle.cl_contests.specs.Below.{AlikeHubs}
+use Rattle.cl_explore.specs.How.{How, by_contest}
+
+-- ---- hubs
+
+-- alike by these names, as this search compares them
+abbrev pub AreHubsIn : How → Renaming → HubView → HubView → Type 0
+AreHubsIn (by_contest contest) names a b = AlikeHubs contest.wild names a b
+AreHubsIn _ names a b = SameHubs names a b
+
+-- the list gives names by which they are
+pub record AreNamedIn (how : How) (to : List ℕ) (a b : HubView) : Type 0 where
+  pub names : Renaming
+  pub listed : IsListed names to
+  pub alike : AreHubsIn how names a b
 
 -- ---- boxes
 

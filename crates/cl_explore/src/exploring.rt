@@ -10,7 +10,7 @@ ghost use Rattle.cl_contests.specs.Going.{IsFirstHart};
 ghost use Rattle.cl_contests.specs.declared.patterns.AskedBy.{AskedBy};
 ghost use Rattle.cl_explore.specs.How.{HasRoom, IsHaltOf, at_once, how_in, how_of, plainly};
 ghost use Rattle.cl_explore.specs.declared.course.Way.TheVariants as ways;
-ghost use Rattle.cl_explore.specs.Ends.{AreEnough, AreTurnsTo, BeginsAt, Explored, ExploredBehind, ExploredPlainly, ExploresFrom, HasLonger, IsBounded, IsLonger, Notes, findings};
+ghost use Rattle.cl_explore.specs.Ends.{AreEnough, AreTurnsTo, BeginsAt, Explored, ExploredBehind, ExploredPlainly, ExploresFrom, HasLonger, IsBounded, IsLonger, Notes, StillExplores, findings};
 ghost use Rattle.cl_explore.specs.Visiting.{NotesVisit, findings_of};
 ghost use Rattle.cl_explore.specs.Orders.{OrderFaultHolds};
 
@@ -132,7 +132,38 @@ fn search_nodes(
     ensures halt { IfErr result (IsHaltOf course.now.way) }
 {
     let long = begin(course, search, standing)?;
-    visit_each(course, search, long, bounds)
+    match visit_each(course, search, long, bounds)? {
+        None => Ok(None),
+        Some(told) => Ok(Some(follow_if_cut(course, search, told, bounds)?)),
+    }
+}
+
+/// Where a search was cut before it found an end, one schedule is followed from the first node that is left. Its end is told,
+/// and is one more node that is left.
+fn follow_if_cut(
+    course: &Manner<'_>,
+    search: &mut Search,
+    mut told: Told,
+    bounds: Bounds,
+) -> Result<Told, MoveFault>
+    requires { 0 < length course.now.order.now }
+    ensures ends { IfOk result (λ after. StillExplores (how_in course.now) course.now.order.now
+        (findings_of search.old told) (findings_of search.new after)) }
+    ensures most { IfOk result (λ after. IsBounded bounds.states bounds.enough course.now.most search.old.nodes.items told.left
+        → IsBounded bounds.states bounds.enough course.now.most search.new.nodes.items after.left) }
+{
+    if bounds.enough.is_some() || told.left == 0 || !told.noted.ends.is_empty() {
+        return Ok(told);
+    }
+    let Some(from) = search.nodes.len().checked_sub(told.left) else {
+        return Ok(told);
+    };
+    let Some(end) = search.dive(course, from)? else {
+        return Ok(told);
+    };
+    told.noted.ends.push(end)?;
+    told.left = search.nodes.len().saturating_sub(from);
+    Ok(told)
 }
 
 /// Notes a node if it is an end.

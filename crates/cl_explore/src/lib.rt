@@ -10,6 +10,7 @@ mod alike_harts;
 mod candidates;
 mod companies;
 mod course;
+mod diving;
 mod exploring;
 mod halt;
 mod kept;

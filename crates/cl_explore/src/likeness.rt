@@ -1,22 +1,26 @@
 //! Whether a standing is alike a node that is kept.
 
-ghost use Rattle.std.specs.Prelude.{◌≡◌, ℕ, IfOk, IsTrue, List, map, true};
+ghost use Rattle.std.specs.Prelude.{◌≡◌, ℕ, IfOk, IfSome, IsTrue, List, map, true};
 ghost use Rattle.mp_alike_laws.specs.Renaming.{Renaming};
 ghost use Rattle.mp_alike.specs.Names.{IsListed};
 ghost use Rattle.cl_state.specs.Room.{rank_of};
 ghost use Rattle.cl_order_laws.specs.Alike.{AlikeRanks, AreEach};
+ghost use Rattle.cl_contests.specs.declared.patterns.AskedBy.{AskedBy};
+ghost use Rattle.cl_explore.specs.How.{how_of};
 ghost use Rattle.cl_explore.specs.Kept.{IsAlikeKept};
-ghost use Rattle.cl_explore.specs.Likeness.{HaveSameSites};
+ghost use Rattle.cl_explore.specs.Likeness.{AreNamedIn, HaveSameSites};
 
 use crate::alike_boxes::are_alike_boxes;
 use crate::alike_harts::{are_alike_harts, are_alike_slots};
+use crate::course::Way;
 use crate::kept::KeptNode;
 use cl_moves::Standing;
 use cl_replay::SharedRank;
 use cl_state::{KeptRank, RankState};
-use mp_alike::{Names, alike_names};
+use mp_alike::{Names, WholeHub, alike_names, live_names};
 use rv_decode::Reg;
 use rv_hart::{Hart, Mode};
+use rv_memory::RankMemory;
 use std::alloc::{AllocError, Global};
 
 /// What a key is with one more number.
@@ -40,6 +44,36 @@ fn key_of_hart(hart: &Hart) -> u64 {
     key
 }
 
+/// How many bytes of a memory are looked at together: those of a page.
+const PAGE: u64 = 4096;
+
+/// A number of a page that changes with its bytes.
+fn key_of_page(bytes: &[u8; PAGE as usize]) -> u64 {
+    let mut key = 0;
+    for word in 0..PAGE as usize / 8 {
+        let at = 8 * word;
+        let front = [bytes[at], bytes[at + 1], bytes[at + 2], bytes[at + 3]];
+        let back = [bytes[at + 4], bytes[at + 5], bytes[at + 6], bytes[at + 7]];
+        let low = u64::from(u32::from_le_bytes(front));
+        let high = u64::from(u32::from_le_bytes(back));
+        key = mixed(key, high << 32 | low);
+    }
+    key
+}
+
+/// A number of a memory that changes with the bytes of the pages that it holds.
+fn key_of_memory(memory: &RankMemory) -> u64 {
+    let mut bytes = [0; PAGE as usize];
+    let mut key = 0;
+    for page in 0..memory.size() / PAGE {
+        if memory.present(page * PAGE, PAGE) {
+            memory.read_into(page * PAGE, &mut bytes);
+            key = mixed(mixed(key, page), key_of_page(&bytes));
+        }
+    }
+    key
+}
+
 /// A number of a rank that changes with its harts and how much it wrote.
 fn key_of_state(rank: &RankState) -> u64 {
     let mut key = rank.out.len() as u64;
@@ -57,12 +91,29 @@ pub(crate) fn key_of_rank(standing: &Standing, rank: usize) -> u64 {
     }
 }
 
-/// A number by which nodes are found that may be alike: those that are have the same one, and others mostly have another.
-/// Nothing depends on it but time.
-pub(crate) fn key_of(standing: &Standing) -> u64 {
-    let mut key = standing.whole.key();
+/// A number of a hub that changes with what is compared of it in this way.
+fn key_of_hub(way: Way, whole: &WholeHub) -> u64 {
+    match way {
+        Way::Plainly | Way::AtOnce => whole.key(),
+        Way::First => whole.live_key(),
+    }
+}
+
+/// A number of a rank in a node. Where turns go first that nobody contests, it changes with its memory too: the messages that a
+/// rank received aren't compared there, so that many nodes differ in what it keeps of them alone.
+fn key_of_state_in(way: Way, rank: &RankState) -> u64 {
+    match way {
+        Way::Plainly | Way::AtOnce => key_of_state(rank),
+        Way::First => mixed(key_of_state(rank), key_of_memory(&rank.memory)),
+    }
+}
+
+/// A number by which nodes are found that may be alike, as they are compared in this way: those that are have the same one,
+/// and others mostly have another. Nothing depends on it but time.
+pub(crate) fn key_of(way: Way, standing: &Standing) -> u64 {
+    let mut key = key_of_hub(way, &standing.whole);
     for rank in standing.cluster.ranks.iter() {
-        key = mixed(key, key_of_state(rank));
+        key = mixed(key, key_of_state_in(way, rank));
     }
     key
 }
@@ -92,15 +143,33 @@ fn are_alike_ranks(names: &Names, ranks: &[RankState], kept: &[SharedRank]) -> b
     true
 }
 
-/// Whether they are alike, places in the order aside. The only error is want of memory.
+/// Names by which the one hub is alike the other, as they are compared in this way. The only error is want of memory.
+fn hub_names(
+    alloc: Global,
+    way: Way,
+    mine: &WholeHub,
+    theirs: &WholeHub,
+) -> Result<Option<Names>, AllocError>
+    ensures { IfOk result (λ found. IfSome found (λ names. (asked : List AskedBy)
+        → AreNamedIn (how_of way asked) names mine.now theirs.now)) }
+{
+    match way {
+        Way::Plainly | Way::AtOnce => alike_names(alloc, mine, theirs),
+        Way::First => live_names(alloc, mine, theirs),
+    }
+}
+
+/// Whether they are alike, as they are compared in this way, places in the order aside. The only error is want of memory.
 pub(crate) fn is_alike(
     alloc: Global,
+    way: Way,
     standing: &Standing,
     kept: &KeptNode,
 ) -> Result<bool, AllocError>
-    ensures { IfOk result (λ alike. alike ≡ true → (order : List ℕ) → IsAlikeKept order standing.now kept.now) }
+    ensures { IfOk result (λ alike. alike ≡ true → (asked : List AskedBy) (order : List ℕ)
+        → IsAlikeKept (how_of way asked) order standing.now kept.now) }
 {
-    let Some(names) = alike_names(alloc, &standing.whole, &kept.whole)? else {
+    let Some(names) = hub_names(alloc, way, &standing.whole, &kept.whole)? else {
         return Ok(false);
     };
     let boxes = standing.cluster.boxes.as_slice();

@@ -247,7 +247,7 @@ impl Search {
     ) -> Result<Visit, Halt>
         requires { 0 < length course.now.order.now }
         ensures visits { (kept : KeptView) → slice_get self.old.nodes.items node ≡ Some kept → IsLiveOf kept live.old
-            → IfOk result (λ visit. KeepsOf course.now.order.now self.old node self.new
+            → IfOk result (λ visit. KeepsOf (how_in course.now) course.now.order.now self.old node self.new
             (IsVisited (how_in course.now) course.now.order.now self.new.leads.items node visit)) }
         ensures halt { IfErr result (IsHaltOf course.now.way) }
     {
@@ -267,7 +267,7 @@ impl Search {
     /// All moves of a node. Answers whether nobody goes on there, and who is stuck.
     pub(crate) fn visit(&mut self, course: &Manner<'_>, node: usize) -> Result<Visit, Halt>
         requires { 0 < length course.now.order.now }
-        ensures visits { IfOk result (λ visit. KeepsOf course.now.order.now self.old node self.new
+        ensures visits { IfOk result (λ visit. KeepsOf (how_in course.now) course.now.order.now self.old node self.new
             (IsVisited (how_in course.now) course.now.order.now self.new.leads.items node visit)) }
         ensures halt { IfErr result (IsHaltOf course.now.way) }
     {

@@ -5,8 +5,9 @@ ghost use Rattle.cl_record.specs.Plans.{in_slot};
 ghost use Rattle.cl_state.specs.Room.{rank_of};
 ghost use Rattle.cl_replay.specs.Kept.{ranks_at};
 ghost use Rattle.cl_order_laws.specs.Closed.{IsDone};
+ghost use Rattle.cl_explore.specs.How.{how_in};
 ghost use Rattle.cl_explore.specs.Kept.{AreSamePlaces, HaveStayedSince};
-ghost use Rattle.cl_explore.specs.Searching.{Arrives, IsFoundIn};
+ghost use Rattle.cl_explore.specs.Searching.{Adds, Arrives, IsFoundIn};
 
 use crate::candidates::Candidates;
 use crate::course::Manner;
@@ -82,7 +83,8 @@ impl Search {
         node: usize,
     ) -> Result<bool, AllocError>
         requires { 0 < length course.now.order.now }
-        ensures { IfOk result (λ at. at ≡ true → IsFoundIn course.now.order.now self.now.nodes.items standing.now node) }
+        ensures { IfOk result (λ at. at ≡ true → IsFoundIn (how_in course.now) course.now.order.now self.now.nodes.items
+            standing.now node) }
     {
         if node >= self.nodes.len() {
             return Ok(false);
@@ -91,7 +93,7 @@ impl Search {
         if !are_same_places(course.order, standing, kept.had.as_slice()) {
             return Ok(false);
         }
-        is_alike(course.alloc, standing, kept)
+        is_alike(course.alloc, course.way, standing, kept)
     }
 
     /// A node that is alike a standing, at the same places: of those that have its key.
@@ -103,7 +105,7 @@ impl Search {
     ) -> Result<Option<usize>, AllocError>
         requires { 0 < length course.now.order.now }
         ensures { IfOk result (λ found. IfSome found
-            (IsFoundIn course.now.order.now self.now.nodes.items standing.now)) }
+            (IsFoundIn (how_in course.now) course.now.order.now self.now.nodes.items standing.now)) }
     {
         let mut next = self.candidates.last(key);
         for _node in 0..self.nodes.len() {
@@ -148,6 +150,30 @@ impl Search {
         keep_moved(course.alloc, standing, earlier, rank, near)
     }
 
+    /// A standing, of which this is the key, is kept as one more node. The turns that it notes, most of them of this rank, led to
+    /// it from the node of the number `parent`. Answers the number of the new node.
+    pub(crate) fn add(
+        &mut self,
+        course: &Manner<'_>,
+        standing: &Standing,
+        key: u64,
+        parent: usize,
+        rank: usize,
+    ) -> Result<usize, MoveFault>
+        ensures adds { IfOk result (λ number. Adds course.now.order.now self.old.nodes.items parent standing.now
+            self.new.nodes.items number) }
+        ensures leads { self.new.leads ≡ self.old.leads }
+    {
+        let own = key_of_rank(standing, rank);
+        let cluster = self.keep(course, standing, parent, rank, own)?;
+        let kept = KeptNode::of(course.alloc, standing, cluster, parent)?;
+        let number = self.nodes.len();
+        self.nodes.push(kept)?;
+        self.candidates.add(key)?;
+        self.moved.add(own)?;
+        Ok(number)
+    }
+
     /// A standing is kept as one more node, unless it is alike one, at the same places. The turns that it notes, of this
     /// rank, led to it from the node of the number `parent`. Answers the number of the node.
     pub(crate) fn arrive(
@@ -158,22 +184,15 @@ impl Search {
         rank: usize,
     ) -> Result<usize, MoveFault>
         requires { 0 < length course.now.order.now }
-        ensures arrives { IfOk result (Arrives course.now.order.now self.old.nodes.items parent standing.now
-            self.new.nodes.items) }
+        ensures arrives { IfOk result (Arrives (how_in course.now) course.now.order.now self.old.nodes.items parent
+            standing.now self.new.nodes.items) }
         ensures leads { self.new.leads ≡ self.old.leads }
     {
-        let key = key_of(standing);
+        let key = key_of(course.way, standing);
         let found = self.finds(course, standing, key)?;
         if let Some(node) = found {
             return Ok(node);
         }
-        let own = key_of_rank(standing, rank);
-        let cluster = self.keep(course, standing, parent, rank, own)?;
-        let kept = KeptNode::of(course.alloc, standing, cluster, parent)?;
-        let number = self.nodes.len();
-        self.nodes.push(kept)?;
-        self.candidates.add(key)?;
-        self.moved.add(own)?;
-        Ok(number)
+        self.add(course, standing, key, parent, rank)
     }
 }

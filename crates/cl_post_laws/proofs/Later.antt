@@ -1,5 +1,5 @@
 -- A receive that is posted first, and given its message later.
-use Rattle.std.proofs.Common.{◌≡◌, ◌∙◌, ℕ, ◌<◌, refl, sym, ap, subst, Bool, true, false, List, [], ◌∷◌, length, Option, Some, None}
+use Rattle.std.proofs.Common.{◌≡◌, ◌∙◌, ℕ, ◌<◌, refl, sym, ap, subst, Bool, true, false, List, length, Option, Some, None}
 use Rattle.std.specs.Prelude.{◌==◌, if◌then◌else◌}
 use Rattle.std.proofs.lemmas.List.{get_or-set_same, set-set}
 use Rattle.rv_memory.specs.Memory.{Memory}
@@ -15,41 +15,29 @@ use Rattle.mp_types.specs.declared.requests.Request.TheVariants as request
 use Rattle.mp_request.specs.declared.entries.OpenRequest.{OpenRequest}
 use Rattle.mp_request.specs.declared.entries.Transfer.{Transfer}
 use Rattle.mp_request.specs.declared.entries.Transfer.TheVariants as transfer
-use Rattle.mp_request.specs.declared.entries.Partitions.{Partitions}
 use Rattle.mp_request.specs.Table.{Table, request_at}
 use Rattle.part_phase.specs.declared.phases.Phase.{Phase}
-use Rattle.part_phase.specs.Phases.{receiving_at}
 use Rattle.cl_calls.specs.declared.calls.Call.{Call}
 use Rattle.cl_calls.specs.declared.calls.Call.TheVariants as call
 use Rattle.cl_calls.specs.declared.calls.Receiving.{Receiving}
 use Rattle.cl_calls.specs.declared.sites.Site.{Site}
-use Rattle.cl_calls.specs.Calls.{call_named, no_message, no_rank}
-use Rattle.cl_calls.specs.Checks.{receiving_side, sending_side}
-use Rattle.cl_calls.specs.Handles.{handles_in}
-use Rattle.cl_calls.specs.Needs.{array_at}
+use Rattle.cl_calls.specs.Calls.{call_named, no_rank}
 use Rattle.cl_calls.specs.Site.{members, position_of}
 use Rattle.cl_state.specs.declared.asking.Answer.TheVariants as answer
 use Rattle.cl_state.specs.declared.asking.Ask.{Ask}
 use Rattle.cl_state.specs.declared.asking.Ask.TheVariants as ask
 use Rattle.cl_state.specs.declared.asking.Doing.{Doing}
-use Rattle.cl_state.specs.declared.asking.Doing.TheVariants.{Step, Refused, Go, Poll, Stopped}
-use Rattle.cl_state.specs.declared.partitions.Awaited.{Awaited}
-use Rattle.cl_state.specs.declared.partitions.Awaited.TheVariants as awaited_word
-use Rattle.cl_state.specs.declared.pending.Manner.{Manner}
-use Rattle.cl_state.specs.declared.pending.Manner.TheVariants.{Immediate, Blocking, Posting}
-use Rattle.cl_state.specs.declared.pending.Pending.{Pending}
-use Rattle.cl_state.specs.declared.pending.Pending.TheVariants as pending
+use Rattle.cl_state.specs.declared.asking.Doing.TheVariants.{Step, Go, Poll}
+use Rattle.cl_state.specs.declared.pending.Manner.TheVariants.{Posting}
 use Rattle.cl_state.specs.declared.pending.Target.{Target}
 use Rattle.cl_state.specs.declared.row.Row.TheVariants.{OnReply}
 use Rattle.cl_state.specs.declared.row.Wanted.TheVariants as wanted
-use Rattle.cl_state.specs.Asked.{Part, asked, asked_by, asked_completing, asked_in, asked_start, checked, doing, doing_in, go_or_refuse, is_ecall, no_hart, part_of}
-use Rattle.cl_state.specs.Partitions.{asked_arrived, asked_awaited, asked_ready, awaited, awaited_of_part}
-use Rattle.cl_state.specs.Pending.{asked_pending, pending_of}
+use Rattle.cl_state.specs.Asked.{Part, asked, asked_by, asked_in, asked_start, checked, doing, doing_in, go_or_refuse, is_ecall, no_hart, part_of}
 use Rattle.cl_state.specs.Rank.{Rank}
-use Rattle.cl_state.specs.Several.{asked_all, pendings, posts_pending}
 use Rattle.cl_state.specs.Table.{comes, into, nothing_comes, row_in}
 use Rattle.cl_state.specs.Told.{received, received_from, received_message, returned, told, told_row, waiting, with_part}
 use Rattle.cl_state.specs.Transfers.{asked_transfer, receive_of, send_of}
+use Rattle.cl_post_laws.proofs.Posting.{BeginsTransfer, MakesPost, makes_post}
 use Rattle.cl_post_laws.proofs.Renamed.{by_row, row_at}
 
 -- ---- who asks for a message now
@@ -57,6 +45,10 @@ use Rattle.cl_post_laws.proofs.Renamed.{by_row, row_at}
 abbrev IsNow : Ask → Type 0
 IsNow (ask.Hub (request.Recv true comm source tag)) = Unit {0}
 IsNow _ = ⊥
+
+now_makes : (a : Ask) → IsNow a → MakesPost a
+now_makes (ask.Hub (request.Recv true comm source tag)) is = tt
+now_makes _ is = absurd is
 
 none_now : (memory : Memory) (t : Transfer) → IsNow (asked_transfer memory false t) → ⊥
 none_now memory transfer.SendToNull is = is
@@ -72,36 +64,6 @@ sends_now : (memory : Memory) (now b : Bool) (x : Transfer) → (IsNow (asked_tr
 sends_now memory now true x no' is = is
 sends_now memory now false x no' is = no' is
 
-waits_now : (m : Manner) (a : Awaited) → IsNow (asked_awaited m a) → ⊥
-waits_now Immediate awaited_word.Nothing is = is
-waits_now Immediate awaited_word.Unready is = is
-waits_now Immediate (awaited_word.Taking link part) is = is
-waits_now Immediate (awaited_word.Cut link) is = is
-waits_now Immediate (awaited_word.Box link box) is = is
-waits_now m awaited_word.Nothing is = is
-waits_now m awaited_word.Unready is = is
-waits_now m (awaited_word.Taking link part) is = is
-waits_now m (awaited_word.Cut link) is = is
-waits_now m (awaited_word.Box link box) is = is
-
-pends_now : (p : Pending) → IsNow (asked_pending p) → ⊥
-pends_now pending.Nothing is = is
-pends_now pending.FromNull is = is
-pends_now (pending.Message post buffer capacity) is = is
-pends_now (pending.Word post) is = is
-
-completes_now : (m : Manner) (a : Option Awaited) (p : Pending) → IsNow (asked_completing m a p) → ⊥
-completes_now m (Some a) p is = waits_now m a is
-completes_now m None p is = pends_now p is
-
-all_now : (posts : List ℕ) → IsNow (asked_all posts) → ⊥
-all_now [] is = is
-all_now (post ∷ posts) is = is
-
-either_now : (b : Bool) (x y : Ask) → (IsNow x → ⊥) → (IsNow y → ⊥) → IsNow (if b then x else y) → ⊥
-either_now true x y f g is = f is
-either_now false x y f g is = g is
-
 -- a RECV, of another than the null process
 record IsRecv (c : Call) : Type 0 where
   receiving : Receiving
@@ -115,65 +77,24 @@ module _ (site : Site) (memory : Memory) (table : Table) (phases : List Phase) w
   recv r status true e x is = absurd is
   recv r status false e x is = record { receiving = r; status = status; is = refl; source = e }
 
-  ready_now : (part : ℕ) (o : Option Partitions) → IsNow (asked_ready site memory part o) → ⊥
-  ready_now part None is = is
-  ready_now part (Some side) is = is
-
-  arrived_now : (part : ℕ) (o : Option Partitions) → IsNow (asked_arrived phases part o) → ⊥
-  arrived_now part None is = is
-  arrived_now part (Some side) is =
-      waits_now Immediate (awaited_of_part side.link (receiving_at phases side.link) part) is
-
   starts_now : (o : Option OpenRequest) → IsNow (asked_start memory o) → ⊥
   starts_now None is = is
   starts_now (Some r) is = none_now memory r.transfer is
 
-  by_call : (c : Call) → IsNow (asked_by site memory table phases c) → IsRecv c
-  by_call (call.Exit value) is = absurd is
-  by_call (call.Put buffer count) is = absurd is
-  by_call (call.Rank comm) is = absurd is
-  by_call (call.Size comm) is = absurd is
-  by_call call.Hart is = absurd is
-  by_call (call.Send s) is = absurd (sends_now memory true (s.dest == no_rank) _ (λ x. x) is)
-  by_call (call.Ssend s) is = absurd (sends_now memory true (s.dest == no_rank) _ (λ x. x) is)
-  by_call (call.Recv r status) is = recv r status (r.source == no_rank) refl _ is
-  by_call (call.Isend s) is = absurd (none_now memory (send_of site false s) is)
-  by_call (call.Issend s) is = absurd (none_now memory (send_of site true s) is)
-  by_call (call.Irecv r) is = absurd (none_now memory (receive_of site r) is)
-  by_call (call.Test c) is =
-      absurd (completes_now Immediate (awaited phases (request_at table c.handle)) (pending_of (request_at table c.handle)) is)
-  by_call (call.Wait c) is =
-      absurd (completes_now Blocking (awaited phases (request_at table c.handle)) (pending_of (request_at table c.handle)) is)
-  by_call (call.Iprobe p) is = absurd (either_now (p.source == no_rank) _ _ (λ x. x) (λ x. x) is)
-  by_call (call.Probe p) is = absurd (either_now (p.source == no_rank) _ _ (λ x. x) (λ x. x) is)
-  by_call (call.Improbe p) is = absurd (either_now (p.source == no_rank) _ _ (λ x. x) (λ x. x) is)
-  by_call (call.Mprobe p) is = absurd (either_now (p.source == no_rank) _ _ (λ x. x) (λ x. x) is)
-  by_call (call.Imrecv m) is = absurd (either_now (m.message == no_message) _ _ (λ x. x) (λ x. x) is)
-  by_call (call.Mrecv m status) is = absurd (either_now (m.message == no_message) _ _ (λ x. x) (λ x. x) is)
-  by_call (call.SendInit s) is = absurd is
-  by_call (call.RecvInit r) is = absurd is
-  by_call (call.Start handle) is = absurd (starts_now (request_at table handle) is)
-  by_call (call.RequestFree handle) is = absurd is
-  by_call (call.Testall s) is =
-      absurd (all_now (posts_pending (pendings table (handles_in memory (array_at s.array s.count)))) is)
-  by_call (call.Waitall s) is =
-      absurd (all_now (posts_pending (pendings table (handles_in memory (array_at s.array s.count)))) is)
-  by_call (call.PsendInit t) is = absurd is
-  by_call (call.PrecvInit t) is = absurd is
-  by_call (call.Pready handle part) is = absurd (ready_now part (sending_side (request_at table handle)) is)
-  by_call (call.Parrived handle part) is = absurd (arrived_now part (receiving_side (request_at table handle)) is)
-  by_call call.Unknown is = absurd is
-
-  polls_now : (c : Call) (post : ℕ) → IsNow (asked_in site memory table phases (Poll c post)) → ⊥
-  polls_now (call.Ssend s) post is = is
-  polls_now _ post is = is
+  by_call : (c : Call) → BeginsTransfer c → IsNow (asked_by site memory table phases c) → IsRecv c
+  by_call (call.Send s) makes is = absurd (sends_now memory true (s.dest == no_rank) _ (λ x. x) is)
+  by_call (call.Ssend s) makes is = absurd (sends_now memory true (s.dest == no_rank) _ (λ x. x) is)
+  by_call (call.Recv r status) makes is = recv r status (r.source == no_rank) refl _ is
+  by_call (call.Isend s) makes is = absurd (none_now memory (send_of site false s) is)
+  by_call (call.Issend s) makes is = absurd (none_now memory (send_of site true s) is)
+  by_call (call.Irecv r) makes is = absurd (none_now memory (receive_of site r) is)
+  by_call (call.Start handle) makes is = absurd (starts_now (request_at table handle) is)
+  by_call _ makes is = absurd makes
 
   by_doing : (d : Doing) → IsNow (asked_in site memory table phases d) → (c : Call) × (d ≡ Go c) × IsRecv c
-  by_doing Step is = absurd is
-  by_doing (Refused code) is = absurd is
-  by_doing (Go c) is = (c, refl, by_call c is)
-  by_doing (Poll c post) is = absurd (polls_now c post is)
-  by_doing Stopped is = absurd is
+  by_doing d is =
+      let made = makes_post site memory table phases d (now_makes _ is) in
+      (made.0, made.1, by_call made.0 made.2 (subst (λ x. IsNow (asked_in site memory table phases x)) made.1 is))
 
 -- ---- the call that a hart makes is the one that its registers name
 

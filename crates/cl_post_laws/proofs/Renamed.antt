@@ -40,7 +40,8 @@ use Rattle.cl_names_laws.proofs.Asks.{doing_named, part_by, part_named}
 use Rattle.cl_names_laws.proofs.Rows.{row_named}
 use Rattle.cl_names_laws.proofs.Tables.{free_named, request_named, with_named}
 use Rattle.cl_names_laws.proofs.Told.{names_law}
-use Rattle.cl_post_laws.specs.Laws.{NamesBelow, TellsBelow}
+use Rattle.cl_post_laws.specs.Laws.{IsNamed, NamesBelow, TellsBelow, TellsOnly}
+use Rattle.cl_post_laws.specs.Names.{NamesOnly}
 
 -- ---- a turn by its row
 
@@ -234,16 +235,35 @@ module _ (names : Renaming) where
 
 -- ---- a rank names posts that it was told of alone
 
+-- by names under which a rank and what it is told are the same, it goes on to the same
+goes_on : (names : Renaming) (rank : Rank) (hart : ℕ) (a : Answer) (stamp : ℕ) → rank_by names rank ≡ rank
+    → IsSameNamed names a → rank_by names (told rank hart a stamp) ≡ told rank hart a stamp
+goes_on names rank hart a stamp old same =
+    sym ((names_law.tells) names rank hart a stamp same) ∙ ap (λ x. told x hart a stamp) old
+
 pub below : (n m : ℕ) (rank : Rank) (hart : ℕ) (a : Answer) (stamp : ℕ) → n ≤ m → NamesBelow n rank → TellsBelow m a
     → NamesBelow m (told rank hart a stamp)
 below n m rank hart a stamp more old tells names fixed =
-    sym ((names_law.tells) names rank hart a stamp (same a tells))
-    ∙ ap (λ x. told x hart a stamp) (old names (λ place h. fixed place (omega (arith, h, more))))
+    goes_on names rank hart a stamp (old names (λ place h. fixed place (omega (arith, h, more)))) (same a tells)
   where
     number : (post : ℕ) → post ≤ m → number_by names post ≡ post
     number zero h = refl
     number (suc place) h = ap suc (fixed place (omega (arith, h)))
 
     same : (a : Answer) → TellsBelow m a → IsSameNamed names a
+    same (answer.Reply (reply.Posted post done)) h = number post h
+    same _ h = tt
+
+pub only : (named more : ℕ → Bool) (rank : Rank) (hart : ℕ) (a : Answer) (stamp : ℕ)
+    → ((place : ℕ) → named place ≡ true → more place ≡ true) → NamesOnly named rank → TellsOnly more a
+    → NamesOnly more (told rank hart a stamp)
+only named more rank hart a stamp within old tells names fixed =
+    goes_on names rank hart a stamp (old names (λ place h. fixed place (within place h))) (same a tells)
+  where
+    number : (post : ℕ) → IsNamed more post → number_by names post ≡ post
+    number zero h = refl
+    number (suc place) h = ap suc (fixed place h)
+
+    same : (a : Answer) → TellsOnly more a → IsSameNamed names a
     same (answer.Reply (reply.Posted post done)) h = number post h
     same _ h = tt

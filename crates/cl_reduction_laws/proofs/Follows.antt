@@ -9,6 +9,7 @@ use Rattle.rv_hart.specs.declared.state.Mode.TheVariants.{Running, Waiting, Ende
 use Rattle.rv_hart.specs.declared.state.Wait.TheVariants.{Post, Again}
 use Rattle.mp_types.specs.declared.requests.Request.{Request}
 use Rattle.mp_types.specs.declared.requests.Request.TheVariants as request
+use Rattle.mp_match.specs.Board.{Board}
 use Rattle.mp_alike_laws.specs.Renaming.{Renaming, request_by}
 use Rattle.mp_source_laws.specs.Alike.{Wild}
 use Rattle.mp_source_laws.specs.Laws.{AsksWithin}
@@ -23,15 +24,16 @@ use Rattle.cl_state_laws.specs.Awake.{StandsAtCall, awake, woken}
 use Rattle.cl_state_laws.specs.Vain.{mode_of, waits_on}
 use Rattle.cl_state_laws.proofs.Wakes.{does_awake, part_awake, wake_law}
 use Rattle.cl_machine.specs.Cluster.{Cluster}
-use Rattle.cl_order_laws.specs.Alike.{AlikeRanks, at_stamp}
+use Rattle.cl_order_laws.specs.Alike.{AlikeRanks, at_stamp, hub_of}
 use Rattle.cl_order_laws.proofs.Likeness.{each_from}
 use Rattle.cl_order_laws.proofs.Ranks.{asked_alike, harts_alike}
-use Rattle.cl_first_laws.specs.Below.{AreAlike, AskWithin}
+use Rattle.cl_first_laws.specs.Below.{AreAlike, AskOfLive, AskWithin}
 use Rattle.cl_first_laws.proofs.Below.{likeness_law}
-use Rattle.cl_first_laws.proofs.Below.{go_alike_law}
+use Rattle.cl_first_laws.proofs.Below.{asks_of_named, go_alike_law}
 use Rattle.cl_first_laws.specs.Laws.{Turn}
 use Rattle.cl_reduction_laws.specs.Patterns.{IsAllowed, pattern_of, pattern_of_ask, pattern_of_request}
-use Rattle.cl_reduction_laws.specs.Clusters.{IsWithin, Search, State, awake_cluster, weight_in, weight_of}
+use Rattle.cl_reduction_laws.specs.Clusters.{IsWithin, Search, State, awake_cluster, may_be_named, weight_in, weight_of}
+use Rattle.cl_reduction_laws.proofs.Naming.{asks_of_live, named_inside}
 use Rattle.cl_reduction_laws.proofs.Awake.{clusters_awake, from_mapped, mapped}
 use Rattle.cl_reduction_laws.proofs.Good.{IsMade, gone, good_after, made_within}
 use Rattle.cl_reduction_laws.proofs.Machine.{ask_awake, same_alike, same_awake, same_turns, taken, turn_by}
@@ -201,6 +203,27 @@ module _ (search : Search) where
           light_too k.0 (search.harts r) x y ((a.good).stands r x f) ((b.good).stands r y e)
           (subst (λ z. AlikeRanks k.0 (awake z) (awake y)) same v.2)
 
+  -- what a rank asks about isn't a send that is over
+  pub asks_live : (a : State search) (r hart : ℕ) (x : Rank) → slice_get a.cluster.ranks r ≡ Some x
+      → AskOfLive (awake_cluster a.cluster) (asked x hart)
+  asks_live a r hart x here = go (asked x hart) refl
+    where
+      board : Board
+      board = (hub_of a.cluster.journal).board
+
+      go : (q : Ask) → asked x hart ≡ q → AskOfLive (awake_cluster a.cluster) q
+      go (Ask.Hub q) is =
+          asks_of_live board q
+          (asks_of_named (may_be_named board.lines) (length board.lines) (named_inside board.lines) x hart q
+          ((a.good).names r x here) is)
+      go Ask.Plain is = tt
+      go Ask.Local is = tt
+      go Ask.Held is = tt
+      go Ask.Idle is = tt
+      go (Ask.Ready link part bytes) is = tt
+      go (Ask.Look link part) is = tt
+      go (Ask.Freed link part) is = tt
+
   pub record Followed (r : ℕ) (b c : State search) : Type 0 where
     pub there : State search
     pub goes : Turn r (search.harts r) b.cluster there.cluster
@@ -231,6 +254,8 @@ module _ (search : Search) where
       (subst (λ i. AskWithin search.wild i (asked (awake x) e.hart)) (sym (w.1).rank)
       (subst (λ j. AskWithin search.wild r (asked (awake x) j)) (sym (w.1).hart)
       (subst (AskWithin search.wild r) (sym same_ask) (within x t.there).1)))
+      (subst (λ j. AskOfLive (awake_cluster a.cluster) (asked (awake x) j)) (sym (w.1).hart)
+      (subst (AskOfLive (awake_cluster a.cluster)) (sym same_ask) (asks_live a r h x t.there)))
       (w.1).leads in
       let turn_b : Turn r h (awake_cluster b.cluster) g.1 =
       record { step = at_stamp e g.0; rank = (w.1).rank; hart = (w.1).hart; leads = g.2 } in

@@ -1,5 +1,5 @@
 -- What holds of the loaded cluster lasts.
-use Rattle.std.proofs.Common.{◌≡◌, ◌∙◌, ℕ, ◌+◌, ◌≤◌, refl, sym, ap, subst, arith, inl, inr, Bool, true, false, length, Option, Some, None}
+use Rattle.std.proofs.Common.{◌≡◌, ◌∙◌, ℕ, suc, ◌+◌, ◌≤◌, refl, sym, ap, subst, arith, inl, inr, Bool, true, false, List, length, Option, Some, None}
 use Rattle.std.specs.Prelude.{cond, nat_lt, ◌&&◌}
 use Rattle.std.specs.List.{list_all, slice_get, slice_set}
 use Rattle.std.proofs.lemmas.Bool.{cases_eq}
@@ -15,9 +15,9 @@ use Rattle.mp_match.specs.declared.posts.Post.{Post}
 use Rattle.mp_match.specs.declared.posts.Post.TheVariants as post
 use Rattle.mp_match.specs.declared.posts.Selection.{Selection}
 use Rattle.mp_match.specs.declared.posts.Sent.{Sent}
-use Rattle.mp_match.specs.Board.{Board, collect, held_count, is_send_of, line_of, receive_posted, send_posted}
+use Rattle.mp_match.specs.Board.{Board, collect, held_count, is_standard, is_send_of, line_of, receive_posted, send_posted}
 use Rattle.mp_match.specs.Pairs.{add}
-use Rattle.mp_match.proofs.Lines.{Look, add_length, is_given, is_new, is_old, look}
+use Rattle.mp_match.proofs.Lines.{Look, is_given, is_new, is_old, look}
 use Rattle.mp_hub.specs.Hub.{HubView, all_collected, all_got, are_distinct, got_or, is_complete, is_done, is_known, is_ready, may_collect, outcome, seen, selecting, sending, with_board}
 use Rattle.mp_probe.specs.Claims.{next_number}
 use Rattle.mp_hub.proofs.BoardKept.{all_lines, collect_lines}
@@ -35,8 +35,8 @@ use Rattle.cl_state.specs.Told.{told}
 use Rattle.cl_state_laws.specs.Awake.{HasNoBytes, StandsAtCall}
 use Rattle.cl_state_laws.specs.Vain.{waits_on}
 use Rattle.cl_state_laws.proofs.Wakes.{wake_law}
-use Rattle.cl_first_laws.specs.Below.{NamesBelow, TellsBelow}
-use Rattle.cl_first_laws.proofs.Below.{below}
+use Rattle.cl_first_laws.specs.Below.{IsNamed, NamesOnly, TellsOnly}
+use Rattle.cl_first_laws.proofs.Below.{forgets, only}
 use Rattle.cl_trace.specs.declared.events.Kind.{Kind}
 use Rattle.cl_machine.specs.Boxes.{Box}
 use Rattle.cl_machine.specs.Cluster.{Cluster}
@@ -50,7 +50,8 @@ use Rattle.cl_order_laws.proofs.Walks.{turn_posts, turn_posts_most}
 use Rattle.cl_first_laws.specs.Below.{AskWithin}
 use Rattle.cl_first_laws.specs.Laws.{Turn}
 use Rattle.cl_first_laws.proofs.Exchanges.{Called, call_of}
-use Rattle.cl_reduction_laws.specs.Clusters.{IsGood, IsWithin, Search, posts_of}
+use Rattle.cl_reduction_laws.specs.Clusters.{IsGood, IsWithin, Search, may_be_named, posts_of}
+use Rattle.cl_reduction_laws.proofs.Naming.{named_added, named_new, names_more}
 use Rattle.cl_reduction_laws.specs.Patterns.{IsAllowed, Patterns, pattern_of, pattern_of_ask, pattern_of_request}
 
 -- ---- the posts of a call
@@ -141,14 +142,28 @@ module _ (wild : Wild) (h : HubView) (within : WaitsWithin wild h) where
 
 -- ---- posts that a reply tells of
 
--- a reply tells of posts that were made
-pub told_below : (h : HubView) (r : ℕ) (q : Request) → IsListed q → (n : ℕ) (done : Bool)
-    → (outcome h r q).0 ≡ reply.Posted n done → n ≤ length (outcome h r q).1.board.lines
-told_below h r (request.Send sync comm dest tag bytes) is n done e =
+-- a call that isn't a standard send
+abbrev pub IsTold : Request → Type 0
+IsTold (request.Send false comm dest tag bytes) = ⊥
+IsTold q = IsListed q
+
+-- what was posted last may be named, if it is no standard send
+new_named : (h : HubView) (p : Post) (n : ℕ) (lines : List Line) → is_standard (Some (record { post = p; partner = None })) ≡ false
+    → lines ≡ add h.board.lines p → next_number h.board ≡ n → IsNamed (may_be_named lines) n
+new_named h p n lines sync is at =
+    let e : suc (length h.board.lines) ≡ n = (omega (arith, at)) in
+    subst (IsNamed (may_be_named lines)) e
+    (subst (λ ms. may_be_named ms (length h.board.lines) ≡ true) (sym is) (named_new h.board.lines p sync))
+
+-- a reply to such a call tells of a post that may be named
+pub told_named : (h : HubView) (r : ℕ) (q : Request) → IsTold q → (n : ℕ) (done : Bool)
+    → (outcome h r q).0 ≡ reply.Posted n done → IsNamed (may_be_named (outcome h r q).1.board.lines) n
+told_named h r (request.Send false comm dest tag bytes) is n done e = absurd is
+told_named h r (request.Send true comm dest tag bytes) is n done e =
     go (nat_lt (held_count h.board.bodies) 65536) e
   where
     s : Sent
-    s = sending r sync comm dest tag bytes
+    s = sending r true comm dest tag bytes
 
     full : Reply × HubView
     full = (reply.Code code.Full, h)
@@ -156,15 +171,13 @@ told_below h r (request.Send sync comm dest tag bytes) is n done e =
     made : Reply × HubView
     made = (reply.Posted (next_number h.board) (is_done h.board s), with_board h (send_posted h.board s bytes))
 
-    go : (b : Bool) → (cond b made full).0 ≡ reply.Posted n done → n ≤ length (cond b made full).1.board.lines
-    go true e =
-        (let same : next_number h.board ≡ n = same_post _ _ _ _ e in
-        let long = add_length h.board.lines (post.Send s) in omega (arith, same, long))
+    go : (b : Bool) → (cond b made full).0 ≡ reply.Posted n done
+        → IsNamed (may_be_named (cond b made full).1.board.lines) n
+    go true e = new_named h (post.Send s) n _ refl refl (same_post _ _ _ _ e)
     go false e = absurd (cc)
-told_below h r (request.Recv false comm source tag) is n done e =
-    (let long = add_length h.board.lines (post.Receive (selecting r comm source tag)) in
-    let same : next_number h.board ≡ n = same_post _ _ _ _ e in omega (arith, same, long))
-told_below h r (request.Recv true comm source tag) is n done e =
+told_named h r (request.Recv false comm source tag) is n done e =
+    new_named h (post.Receive (selecting r comm source tag)) n _ refl refl (same_post _ _ _ _ e)
+told_named h r (request.Recv true comm source tag) is n done e =
     go (collect b (next_number h.board)).0 (collect b (next_number h.board)).1 (collect_lines b (next_number h.board)) e
   where
     b : Board
@@ -172,26 +185,23 @@ told_below h r (request.Recv true comm source tag) is n done e =
 
     go : (o : Option Message) (c : Board) → c.lines ≡ b.lines
         → (got_or h (reply.Posted (next_number h.board) false) (o, c)).0 ≡ reply.Posted n done
-        → n ≤ length (got_or h (reply.Posted (next_number h.board) false) (o, c)).1.board.lines
-    go None c same e =
-        (let at : next_number h.board ≡ n = same_post _ _ _ _ e in
-        let long = add_length h.board.lines (post.Receive (selecting r comm source tag)) in
-        let many = ap length same in omega (arith, at, long, many))
+        → IsNamed (may_be_named (got_or h (reply.Posted (next_number h.board) false) (o, c)).1.board.lines) n
+    go None c same e = new_named h (post.Receive (selecting r comm source tag)) n c.lines refl same (same_post _ _ _ _ e)
     go (Some m) c same e = absurd (cc)
-told_below h r (request.Collect k) is n done e = absurd (go (may_collect h r k) (collect h.board k).0 (collect h.board k).1 e)
+told_named h r (request.Collect k) is n done e = absurd (go (may_collect h r k) (collect h.board k).0 (collect h.board k).1 e)
   where
     go : (b : Bool) (o : Option Message) (c : Board)
         → (cond b (got_or h reply.NotYet (o, c)) (reply.Code code.BadRequest, h)).0 ≡ reply.Posted n done → ⊥
     go true None c e = absurd (cc)
     go true (Some m) c e = absurd (cc)
     go false o c e = absurd (cc)
-told_below h r (request.Finished k) is n done e = absurd (go (is_send_of r (line_of h.board k)) (is_complete h k) e)
+told_named h r (request.Finished k) is n done e = absurd (go (is_send_of r (line_of h.board k)) (is_complete h k) e)
   where
     go : (b c : Bool) → (let o : Reply × HubView = cond b (cond c reply.Done reply.NotYet, h) (reply.Code code.BadRequest, h) in o).0 ≡ reply.Posted n done → ⊥
     go true true e = absurd (cc)
     go true false e = absurd (cc)
     go false c e = absurd (cc)
-told_below h r (request.All ns) is n done e =
+told_named h r (request.All ns) is n done e =
     absurd (go (are_distinct ns && list_all (λ k. is_known h r k) ns) (list_all (λ k. is_ready h r k) ns) e)
   where
     go : (b c : Bool)
@@ -200,26 +210,94 @@ told_below h r (request.All ns) is n done e =
     go true true e = absurd (cc)
     go true false e = absurd (cc)
     go false c e = absurd (cc)
-told_below h r (request.Probe comm source tag) is n done e = absurd (go _ e)
+told_named h r (request.Probe comm source tag) is n done e = absurd (go _ e)
   where
     go : (o : Option Envelope) → seen o ≡ reply.Posted n done → ⊥
     go None e = absurd (cc)
     go (Some x) e = absurd (cc)
-told_below h r _ is n done e = absurd is
+told_named h r (request.Claim comm source tag) is n done e = absurd is
+told_named h r (request.Claimed now k) is n done e = absurd is
+told_named h r (request.Init sends comm peer tag parts size) is n done e = absurd is
+told_named h r (request.Cut link) is n done e = absurd is
 
--- what a reply tells of was made
-pub tells_below : (h : HubView) (r : ℕ) (q : Request) → IsListed q → (x : Reply) → (outcome h r q).0 ≡ x
-    → TellsBelow (length (outcome h r q).1.board.lines) (answer.Reply x)
-tells_below h r q listed (reply.Posted n done) is = told_below h r q listed n done is
-tells_below h r q listed (reply.Code c) is = tt
-tells_below h r q listed (reply.Got m) is = tt
-tells_below h r q listed reply.NotYet is = tt
-tells_below h r q listed reply.Done is = tt
-tells_below h r q listed (reply.Seen e) is = tt
-tells_below h r q listed (reply.Held n e) is = tt
-tells_below h r q listed (reply.AllGot gots) is = tt
-tells_below h r q listed (reply.Link link) is = tt
-tells_below h r q listed (reply.Cut parts size) is = tt
+-- so do they all
+pub tells_named : (h : HubView) (r : ℕ) (q : Request) → IsTold q → (x : Reply) → (outcome h r q).0 ≡ x
+    → TellsOnly (may_be_named (outcome h r q).1.board.lines) (answer.Reply x)
+tells_named h r q told (reply.Posted n done) is = told_named h r q told n done is
+tells_named h r q told (reply.Code c) is = tt
+tells_named h r q told (reply.Got m) is = tt
+tells_named h r q told reply.NotYet is = tt
+tells_named h r q told reply.Done is = tt
+tells_named h r q told (reply.Seen e) is = tt
+tells_named h r q told (reply.Held n e) is = tt
+tells_named h r q told (reply.AllGot gots) is = tt
+tells_named h r q told (reply.Link link) is = tt
+tells_named h r q told (reply.Cut parts size) is = tt
+
+-- posts that may be named may be so afterwards
+pub named_after : (h : HubView) (r : ℕ) (q : Request) → IsListed q → (place : ℕ) → may_be_named h.board.lines place ≡ true
+    → may_be_named (outcome h r q).1.board.lines place ≡ true
+named_after h r q listed place named = go (makes h r q listed)
+  where
+    go : Makes h r q (outcome h r q).1 → may_be_named (outcome h r q).1.board.lines place ≡ true
+    go (nothing same) = ap (λ ms. may_be_named ms place) same ∙ named
+    go (a_send s same) = ap (λ ms. may_be_named ms place) same ∙ named_added h.board.lines (post.Send s) place named
+    go (a_receive now comm source tag is same) =
+        ap (λ ms. may_be_named ms place) same
+        ∙ named_added h.board.lines (post.Receive (selecting r comm source tag)) place named
+
+-- a rank that asks so names such posts alone once it is told the reply
+pub names_told : (h : HubView) (r : ℕ) (q : Request) → IsListed q → (rank : Rank) (hart stamp : ℕ) → asked rank hart ≡ Ask.Hub q
+    → NamesOnly (may_be_named h.board.lines) rank
+    → NamesOnly (may_be_named (outcome h r q).1.board.lines) (told rank hart (answer.Reply (outcome h r q).0) stamp)
+names_told h r (request.Send false comm dest tag bytes) listed rank hart stamp asks only_named =
+    names_more h.board.lines (outcome h r q).1.board.lines _ (named_after h r q listed) (go (nat_lt (held_count h.board.bodies) 65536))
+  where
+    q : Request
+    q = request.Send false comm dest tag bytes
+
+    s : Sent
+    s = sending r false comm dest tag bytes
+
+    full : Reply × HubView
+    full = (reply.Code code.Full, h)
+
+    made : Reply × HubView
+    made = (reply.Posted (next_number h.board) (is_done h.board s), with_board h (send_posted h.board s bytes))
+
+    go : (b : Bool) → NamesOnly (may_be_named h.board.lines) (told rank hart (answer.Reply (cond b made full).0) stamp)
+    go true = forgets (may_be_named h.board.lines) rank hart comm dest tag bytes (next_number h.board) stamp asks only_named
+    go false =
+        only (may_be_named h.board.lines) (may_be_named h.board.lines) rank hart (answer.Reply (reply.Code code.Full)) stamp
+        (λ place named. named) only_named tt
+names_told h r (request.Send true comm dest tag bytes) listed rank hart stamp asks only_named =
+    let q = request.Send true comm dest tag bytes in
+    only (may_be_named h.board.lines) (may_be_named (outcome h r q).1.board.lines) rank hart (answer.Reply (outcome h r q).0) stamp
+    (named_after h r q listed) only_named (tells_named h r q tt (outcome h r q).0 refl)
+names_told h r (request.Recv now comm source tag) listed rank hart stamp asks only_named =
+    let q = request.Recv now comm source tag in
+    only (may_be_named h.board.lines) (may_be_named (outcome h r q).1.board.lines) rank hart (answer.Reply (outcome h r q).0) stamp
+    (named_after h r q listed) only_named (tells_named h r q tt (outcome h r q).0 refl)
+names_told h r (request.Collect n) listed rank hart stamp asks only_named =
+    let q = request.Collect n in
+    only (may_be_named h.board.lines) (may_be_named (outcome h r q).1.board.lines) rank hart (answer.Reply (outcome h r q).0) stamp
+    (named_after h r q listed) only_named (tells_named h r q tt (outcome h r q).0 refl)
+names_told h r (request.Finished n) listed rank hart stamp asks only_named =
+    let q = request.Finished n in
+    only (may_be_named h.board.lines) (may_be_named (outcome h r q).1.board.lines) rank hart (answer.Reply (outcome h r q).0) stamp
+    (named_after h r q listed) only_named (tells_named h r q tt (outcome h r q).0 refl)
+names_told h r (request.All ns) listed rank hart stamp asks only_named =
+    let q = request.All ns in
+    only (may_be_named h.board.lines) (may_be_named (outcome h r q).1.board.lines) rank hart (answer.Reply (outcome h r q).0) stamp
+    (named_after h r q listed) only_named (tells_named h r q tt (outcome h r q).0 refl)
+names_told h r (request.Probe comm source tag) listed rank hart stamp asks only_named =
+    let q = request.Probe comm source tag in
+    only (may_be_named h.board.lines) (may_be_named (outcome h r q).1.board.lines) rank hart (answer.Reply (outcome h r q).0) stamp
+    (named_after h r q listed) only_named (tells_named h r q tt (outcome h r q).0 refl)
+names_told h r (request.Claim comm source tag) listed rank hart stamp asks only_named = absurd listed
+names_told h r (request.Claimed now n) listed rank hart stamp asks only_named = absurd listed
+names_told h r (request.Init sends comm peer tag parts size) listed rank hart stamp asks only_named = absurd listed
+names_told h r (request.Cut link) listed rank hart stamp asks only_named = absurd listed
 
 pub listed_of : (patterns : Patterns) (r : ℕ) (w : Bool) (q : Request) → IsAllowed patterns r (pattern_of_request w q) → IsListed q
 listed_of patterns r w (request.Send sync comm dest tag bytes) is = tt
@@ -329,9 +407,6 @@ grows_by harts r c new turn =
 
 -- ---- a turn keeps what holds
 
-names_more : (n m : ℕ) (rank : Rank) → n ≤ m → NamesBelow n rank → NamesBelow m rank
-names_more n m rank le below names fixed = below names (λ place h. fixed place (omega (arith, h, le)))
-
 module _ (search : Search) (r : ℕ) (c new : Cluster) (rank : Rank) (there : slice_get c.ranks r ≡ Some rank)
     (good : IsGood search c) (within : IsWithin search c r) (turn : Turn r (search.harts r) c new) where
   -- what holds of the rank that was told, and of each other one, holds of all
@@ -354,16 +429,15 @@ module _ (search : Search) (r : ℕ) (c new : Cluster) (rank : Rank) (there : sl
   good_after = go (gone r (search.harts r) c new rank there
       (made_within search.patterns r (search.harts r) rank (within rank there).0) turn)
     where
-      more : posts_of c ≤ posts_of new
-      more = (grows_by search.harts r c new turn).0
-
       names_after : (a : Answer) (stamp : ℕ) → new.ranks ≡ slice_set c.ranks r (told rank (search.harts r) a stamp)
-          → TellsBelow (posts_of new) a
-          → (s : ℕ) (x : Rank) → slice_get new.ranks s ≡ Some x → NamesBelow (posts_of new) x
-      names_after a stamp ranks tells =
-          each_rank (λ s x. NamesBelow (posts_of new) x) a stamp ranks
-          (below (posts_of c) (posts_of new) rank (search.harts r) a stamp more (good.names r rank there) tells)
-          (λ s x here. names_more (posts_of c) (posts_of new) x more (good.names s x here))
+          → ((place : ℕ) → may_be_named (hub_of c.journal).board.lines place ≡ true
+          → may_be_named (hub_of new.journal).board.lines place ≡ true)
+          → NamesOnly (may_be_named (hub_of new.journal).board.lines) (told rank (search.harts r) a stamp)
+          → (s : ℕ) (x : Rank) → slice_get new.ranks s ≡ Some x
+          → NamesOnly (may_be_named (hub_of new.journal).board.lines) x
+      names_after a stamp ranks grow mine =
+          each_rank (λ s x. NamesOnly (may_be_named (hub_of new.journal).board.lines) x) a stamp ranks mine
+          (λ s x here. names_more (hub_of c.journal).board.lines (hub_of new.journal).board.lines x grow (good.names s x here))
 
       stands_after : (a : Answer) (stamp : ℕ) → new.ranks ≡ slice_set c.ranks r (told rank (search.harts r) a stamp)
           → HasNoBytes a
@@ -376,7 +450,12 @@ module _ (search : Search) (r : ℕ) (c new : Cluster) (rank : Rank) (there : sl
       go : Gone r (search.harts r) c new rank → IsGood search new
       go (alone stamp own ranks journal boxes) = record {
         waits = subst (λ j. WaitsWithin search.wild (hub_of j)) (sym journal) good.waits;
-        names = names_after answer.Alone stamp ranks tt;
+        names = names_after answer.Alone stamp ranks
+            (λ place named. ap (λ j. may_be_named (hub_of j).board.lines place) journal ∙ named)
+            (subst (λ j. NamesOnly (may_be_named (hub_of j).board.lines) (told rank (search.harts r) answer.Alone stamp))
+            (sym journal)
+            (only (may_be_named (hub_of c.journal).board.lines) (may_be_named (hub_of c.journal).board.lines) rank
+            (search.harts r) answer.Alone stamp (λ place named. named) (good.names r rank there) tt));
         boxes = subst (λ bs. (i : ℕ) (box : Box) → slice_get bs i ≡ Some box → AlikeBoxes box box) (sym boxes) good.boxes;
         stands = stands_after answer.Alone stamp ranks tt;
       }
@@ -390,8 +469,11 @@ module _ (search : Search) (r : ℕ) (c new : Cluster) (rank : Rank) (there : sl
                 (waits_after search.wild (hub_of c.journal) good.waits r q listed
                 (subst (AskWithin search.wild r) asks (within rank there).1));
             names = names_after (answer.Reply o.0) k.stamp k.ranks
-                (subst (λ h. TellsBelow (length h.board.lines) (answer.Reply o.0)) (sym k.hubs)
-                (tells_below (hub_of c.journal) r q listed o.0 refl));
+                (λ place named. ap (λ (h : HubView). may_be_named h.board.lines place) k.hubs
+                ∙ named_after (hub_of c.journal) r q listed place named)
+                (subst (λ (h : HubView). NamesOnly (may_be_named h.board.lines)
+                (told rank (search.harts r) (answer.Reply o.0) k.stamp)) (sym k.hubs)
+                (names_told (hub_of c.journal) r q listed rank (search.harts r) k.stamp asks (good.names r rank there)));
             boxes = subst (λ bs. (i : ℕ) (box : Box) → slice_get bs i ≡ Some box → AlikeBoxes box box) (sym k.boxes) good.boxes;
             stands = stands_after (answer.Reply o.0) k.stamp k.ranks tt;
           }

@@ -1,4 +1,5 @@
 pub mod Awake
+pub mod Naming
 pub mod Good
 pub mod Machine
 pub mod Follows

@@ -1,11 +1,14 @@
 -- Clusters whose ranks have one hart each, as a machine of ranks that take turns.
-use Rattle.std.specs.Prelude.{ℕ, ◌+◌, ◌<◌, ◌≡◌, ◌≢◌, ◌⊎◌, true, length, map, Option, Some, None}
+use Rattle.std.specs.Prelude.{ℕ, ◌+◌, ◌<◌, ◌≡◌, ◌≢◌, ◌⊎◌, ◌&&◌, Bool, not, true, List, length, map, Option, Some, None}
 use Rattle.std.specs.List.{slice_get}
+use Rattle.std.specs.Option.{is_some}
 use Rattle.rv_hart.specs.declared.state.Mode.{Mode}
 use Rattle.rv_hart.specs.declared.state.Mode.TheVariants.{Waiting}
 use Rattle.rv_hart.specs.declared.state.Wait.TheVariants.{Post}
 use Rattle.mp_types.specs.declared.replies.Reply.TheVariants.{NotYet}
 use Rattle.mp_types.specs.declared.requests.Request.{Request}
+use Rattle.mp_match.specs.declared.posts.Line.{Line}
+use Rattle.mp_match.specs.Board.{is_standard}
 use Rattle.mp_source_laws.specs.Alike.{Wild}
 use Rattle.mp_clash_laws.specs.Exchanges.{IsPosting, WaitsWithin}
 use Rattle.cl_state.specs.declared.asking.Ask.{Ask}
@@ -13,7 +16,7 @@ use Rattle.cl_state.specs.Asked.{asked, doing, part_of}
 use Rattle.cl_state.specs.Rank.{Rank}
 use Rattle.cl_state_laws.specs.Awake.{StandsAtCall, awake}
 use Rattle.cl_state_laws.specs.Vain.{IsStopped, mode_of, waits_on}
-use Rattle.cl_first_laws.specs.Below.{NamesBelow}
+use Rattle.cl_first_laws.specs.Below.{NamesOnly}
 use Rattle.cl_machine.specs.Boxes.{Box}
 use Rattle.cl_machine.specs.Cluster.{Cluster}
 use Rattle.cl_machine.specs.Journal.{reply_in}
@@ -38,11 +41,17 @@ pub record Search : Type 0 where
 abbrev pub posts_of : Cluster → ℕ
 posts_of c = length (hub_of c.journal).board.lines
 
--- receives of any source wait only where those may be made, ranks name only posts that were made, no box has two things,
--- and a hart that is to make its call anew stands at it. Each holds of the loaded cluster, and lasts
+-- a rank may have to name the post at the place: it was made, and is no standard send. Of such a send its rank is told at
+-- once that it is complete, so it forgets the number
+abbrev pub may_be_named : List Line → ℕ → Bool
+may_be_named lines place = is_some (slice_get lines place) && not (is_standard (slice_get lines place))
+
+-- receives of any source wait only where those may be made, ranks name only posts that they may have to name, no box has
+-- two things, and a hart that is to make its call anew stands at it. Each holds of the loaded cluster, and lasts
 pub record IsGood (search : Search) (c : Cluster) : Type 0 where
   pub waits : WaitsWithin search.wild (hub_of c.journal)
-  pub names : (r : ℕ) (rank : Rank) → slice_get c.ranks r ≡ Some rank → NamesBelow (posts_of c) rank
+  pub names : (r : ℕ) (rank : Rank) → slice_get c.ranks r ≡ Some rank
+      → NamesOnly (may_be_named (hub_of c.journal).board.lines) rank
   pub boxes : (i : ℕ) (box : Box) → slice_get c.boxes i ≡ Some box → AlikeBoxes box box
   pub stands : (r : ℕ) (rank : Rank) → slice_get c.ranks r ≡ Some rank → StandsAtCall rank (search.harts r)
 

@@ -9,7 +9,7 @@ use Rattle.mp_types.specs.declared.requests.Request.{Request}
 use Rattle.mp_hub.specs.Hub.{hub_after}
 use Rattle.mp_alike_laws.specs.Renaming.{Renaming, number_by, request_by}
 use Rattle.mp_source_laws.specs.Alike.{AlikeHubs, Wild}
-use Rattle.mp_source_laws.specs.Laws.{AsksWithin}
+use Rattle.mp_source_laws.specs.Laws.{AsksOfLive, AsksWithin}
 use Rattle.mp_source_laws.proofs.Answers.{answers_law}
 use Rattle.cl_journal.specs.declared.entries.Entry.{Entry}
 use Rattle.cl_journal.specs.Journal.{calls_of, call_of}
@@ -26,21 +26,22 @@ use Rattle.cl_machine.specs.Boxes.{Box, box_number, with_made, with_taken}
 use Rattle.cl_machine.specs.Cluster.{CaseOf, Cluster, only_told, ranks_told, with_box}
 use Rattle.cl_machine.specs.Journal.{Journal, reply_in, with_entry}
 use Rattle.cl_order_laws.specs.Alike.{AlikeBoxes, AlikeRanks, AreEach, Leads, at_stamp, hub_of}
-use Rattle.cl_source_laws.specs.Alike.{AlikeClusters, AskWithin}
-use Rattle.cl_source_laws.specs.Laws.{GoAlikeLaw}
+use Rattle.cl_source_laws.specs.Alike.{AskWithin}
+use Rattle.cl_source_laws.specs.Laws.{AskOfLive, GoAlikeLaw}
 use Rattle.cl_order_laws.proofs.Boxes.{empty_too, holds_too, made_alike, taken_alike}
 use Rattle.cl_order_laws.proofs.Each.{each_set}
 use Rattle.cl_order_laws.proofs.Ranks.{asked_alike, harts_alike, told_alike}
 use Rattle.cl_source_laws.proofs.Replies.{posted_named}
 
 pub same_reply : (a : Journal) (rank : ℕ) (q : Request) (b : Journal) (p : Request)
-    → (wild : Wild) (names : Renaming) → AsksWithin wild rank q → AlikeHubs wild names (hub_of a) (hub_of b)
+    → (wild : Wild) (names : Renaming) → AsksWithin wild rank q → AsksOfLive (hub_of a).board q
+    → AlikeHubs wild names (hub_of a) (hub_of b)
     → p ≡ request_by names q
     → reply_in b rank p ≡ reply_in a rank q
 unfolding reply_in
-same_reply a rank q b p wild names may alike is =
+same_reply a rank q b p wild names may live alike is =
     ap (λ x. reply_in b rank x) is
-    ∙ answers_law.reply wild names a.links b.links (calls_of a.entries) (calls_of b.entries) rank q may alike
+    ∙ answers_law.reply wild names a.links b.links (calls_of a.entries) (calls_of b.entries) rank q may live alike
 
 same_number : {wild : Wild} → (a b : Journal) (names : Renaming) → AlikeHubs wild names (hub_of a) (hub_of b) → (rank : ℕ) (q : Request)
     (number : ℕ) (done : Bool) → reply_in a rank q ≡ reply.Posted number done → number_by names number ≡ number
@@ -49,11 +50,11 @@ same_number a b names alike rank q number done told =
     posted_named names a.links (calls_of a.entries) (hub_of b) alike rank q number done told
 
 hub_entered : (wild : Wild) (a b : Journal) (names : Renaming) → AlikeHubs wild names (hub_of a) (hub_of b) → (e f : Entry)
-    → AsksWithin wild e.rank e.request → f.rank ≡ e.rank → f.request ≡ request_by names e.request
+    → AsksWithin wild e.rank e.request → AsksOfLive (hub_of a).board e.request → f.rank ≡ e.rank → f.request ≡ request_by names e.request
     → AlikeHubs wild names (hub_of (with_entry a e)) (hub_of (with_entry b f))
-hub_entered wild a b names alike e f may rank request =
+hub_entered wild a b names alike e f may live rank request =
     let more =
-    answers_law.stays wild names a.links b.links (calls_of a.entries) (calls_of b.entries) e.rank e.request may alike in
+    answers_law.stays wild names a.links b.links (calls_of a.entries) (calls_of b.entries) e.rank e.request may live alike in
     subst (λ cs. AlikeHubs wild names (hub_after a.links cs) (hub_of (with_entry b f))) (sym (calls_of-snoc a.entries e))
     (subst (λ cs. AlikeHubs wild names (hub_after a.links (calls_of a.entries ++ call_of e ∷ [])) (hub_after b.links cs))
     (ap (λ r. calls_of b.entries ++ (r, request_by names e.request) ∷ []) (sym rank)
@@ -75,7 +76,7 @@ pub record Went (wild : Wild) (names : Renaming) (a b new : Cluster) (e : Step) 
 module _ (wild : Wild) (names : Renaming) (a b : Cluster) (e : Step) (hubs : AlikeHubs wild names (hub_of a.journal) (hub_of b.journal))
     (boxes : AreEach AlikeBoxes a.boxes b.boxes) (x y : Rank)
     (there : slice_get b.ranks e.rank ≡ Some y) (both : AlikeRanks names x y)
-    (hart : e.hart < length x.harts) (may : AskWithin wild e.rank (asked x e.hart)) where
+    (hart : e.hart < length x.harts) (may : AskWithin wild e.rank (asked x e.hart)) (live : AskOfLive a (asked x e.hart)) where
   hart_too : e.hart < length y.harts
   hart_too = (let h = harts_alike names x y both in omega (arith, hart, h))
 
@@ -166,8 +167,9 @@ module _ (wild : Wild) (names : Renaming) (a b : Cluster) (e : Step) (hubs : Ali
         boxes = b.boxes;
       } in
       let within : AsksWithin wild e.rank c.0 = subst (AskWithin wild e.rank) c.1 may in
+      let of_live : AsksOfLive (hub_of a.journal).board c.0 = subst (AskOfLive a) c.1 live in
       let replied : r ≡ reply_in b.journal e.rank q =
-      c.2 ∙ sym (same_reply a.journal e.rank c.0 b.journal q wild names within hubs refl) in
+      c.2 ∙ sym (same_reply a.journal e.rank c.0 b.journal q wild names within of_live hubs refl) in
       to new _ c.4 (record {
         stamp = stamp;
         then = then;
@@ -183,7 +185,7 @@ module _ (wild : Wild) (names : Renaming) (a b : Cluster) (e : Step) (hubs : Ali
         ranks = refl;
         others = refl;
         alike = told_alike names x y both e.hart (Answer.Reply r) e.stamp stamp (named r (sym c.2));
-        hubs = hub_entered wild a.journal b.journal names hubs mine entry within refl refl;
+        hubs = hub_entered wild a.journal b.journal names hubs mine entry within of_live refl refl;
         boxes = boxes;
       })
     where
@@ -193,12 +195,13 @@ module _ (wild : Wild) (names : Renaming) (a b : Cluster) (e : Step) (hubs : Ali
       named _ told = tt
 
 pub go_alike_law : GoAlikeLaw
-go_alike_law wild names a b new e rank alike here may leads =
+go_alike_law wild names a b new e rank alike here may live leads =
     let v = (alike.ranks).each e.rank leads.0 leads.1 in
     let same : leads.0 ≡ rank = same_Some leads.0 rank (sym leads.1 ∙ here) in
     let went =
     goes wild names a b e alike.hubs alike.boxes leads.0 v.0 v.1 v.2 leads.2
-    (subst (λ (x : Rank). AskWithin wild e.rank (asked x e.hart)) (sym same) may) e.kind refl new leads.3 in (
+    (subst (λ (x : Rank). AskWithin wild e.rank (asked x e.hart)) (sym same) may)
+    (subst (λ (x : Rank). AskOfLive a (asked x e.hart)) (sym same) live) e.kind refl new leads.3 in (
       went.stamp,
       went.then,
       went.leads,

@@ -1,23 +1,19 @@
 -- Likeness of clusters is an equivalence.
-use Rattle.std.proofs.Common.{◌≡◌, ℕ, zero, suc, List, length, refl, sym, ap, ◌∙◌, subst}
-use Rattle.std.specs.List.{slice_get}
+use Rattle.std.proofs.Common.{◌≡◌, ℕ, zero, suc, List, refl, sym, ap, ◌∙◌, subst}
 use Rattle.std.proofs.lemmas.Option.{same_Some}
 use Rattle.mp_hub.specs.Hub.{HubView}
 use Rattle.mp_alike_laws.specs.Renaming.{Renaming, followed_by, number_by, turned}
 use Rattle.mp_alike_laws.specs.Alike.{AlikeHubs as SameHubs}
-use Rattle.mp_source_laws.specs.Alike.{AlikeHubs, Wild}
+use Rattle.mp_source_laws.specs.Alike.{AlikeHubs, Wild, is_same}
 use Rattle.mp_source_laws.proofs.Likeness.{board_on, hub_back}
 use Rattle.cl_state.specs.Rank.{Rank}
 use Rattle.cl_state_laws.specs.VainLaws.{at_clock}
 use Rattle.cl_names_laws.specs.Named.{rank_by}
 use Rattle.cl_machine.specs.Boxes.{Box}
-use Rattle.cl_machine.specs.Cluster.{Cluster}
 use Rattle.cl_order_laws.specs.Alike.{AlikeBoxes, AlikeRanks, AreEach, both_empty, both_full, hub_of}
-use Rattle.cl_order_laws.specs.Laws.{AreAlike as AreSame}
 use Rattle.cl_order_laws.proofs.Ahead.{alike_on, rank_on}
 use Rattle.cl_order_laws.proofs.Covered.{each_on}
 use Rattle.cl_order_laws.proofs.Likeness.{rank_fixed, within_list}
-use Rattle.cl_source_laws.specs.Alike.{AlikeClusters, AreAlike}
 use Rattle.cl_source_laws.specs.Laws.{LikenessLaw}
 
 turned_fixed : (names : Renaming) (n : ℕ) → number_by (followed_by names (turned names)) n ≡ n
@@ -63,10 +59,10 @@ hubs_same wild names a b f = record {
   board = record {
     many = (f.board).many;
     next = (f.board).next;
-    lines = (f.board).lines;
+    lines = λ place. is_same ((f.board).lines place);
     bodies = (f.board).bodies;
     claims = (f.board).claims;
-    ranks = (f.board).ranks;
+    ranks = λ i j m n below here there same live alive. (f.board).ranks i j m n below here there same;
     sends = λ i j s t below here there dest comm any. (f.board).sends i j s t below here there dest comm;
   };
   claims = f.claims;

@@ -1,5 +1,5 @@
--- Alike clusters: the same but for clocks, stamps, the numbers of posts that are no claims, and the order of messages
--- from different sources where nobody asks for any source.
+-- Alike clusters: the same but for clocks, stamps, the numbers of posts that are no claims, the order of messages from
+-- different sources where nobody asks for any source, and messages that were collected.
 use Rattle.std.specs.Prelude.{ℕ}
 use Rattle.mp_alike_laws.specs.Renaming.{Renaming}
 use Rattle.mp_source_laws.specs.Alike.{AlikeHubs, Wild}

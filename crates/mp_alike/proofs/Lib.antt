@@ -4,6 +4,7 @@ pub mod Places
 pub mod Naming
 pub mod Ordered
 pub mod Boards
+pub mod LiveBoards
 pub mod Initialised
 pub mod Told
 pub mod Hubs

@@ -20,15 +20,19 @@ use Rattle.mp_alike.specs.Names.{IsListed, renamed}
 abbrev pub line_to : List ℕ → Line → Line
 line_to to line = record { post = line.post; partner = option_map (renamed to) line.partner }
 
+-- the post at the place and its partner are those of the post where it goes
+abbrev pub HasLine : List ℕ → List Line → List Line → ℕ → Type 0
+HasLine to mine theirs place = slice_get theirs (renamed to place) ≡ option_map (line_to to) (slice_get mine place)
+
 -- a claim keeps its place
 abbrev pub KeepsClaim : List ℕ → List Line → ℕ → Type 0
 KeepsClaim to lines place =
     (line : Line) (what : Selection) → slice_get lines place ≡ Some line → line.post ≡ Claim what
     → renamed to place ≡ place
 
--- the post at the place, its partner and its message are those of the post where it goes
+-- and so is its message
 pub record IsAlikeAt (to : List ℕ) (a b : Board) (place : ℕ) : Type 0 where
-  pub line : slice_get b.lines (renamed to place) ≡ option_map (line_to to) (slice_get a.lines place)
+  pub line : HasLine to a.lines b.lines place
   pub body : slice_get b.bodies (renamed to place) ≡ slice_get a.bodies place
   pub claim : KeepsClaim to a.lines place
 

@@ -65,7 +65,8 @@ fn are_same_claims(mine: &[Waiting], theirs: &[Waiting]) -> bool
     left.is_empty()
 }
 
-fn is_alike_beside(a: &WholeHub, b: &WholeHub) -> bool
+/// Whether all but the boards are the same.
+pub fn is_alike_beside(a: &WholeHub, b: &WholeHub) -> bool
     ensures { IsTrue result ↔ IsAlikeBeside a.now b.now }
 {
     are_same_links(a.links(), b.links())

@@ -1,6 +1,7 @@
 //! A number by which hubs that may be alike are found.
 
 use crate::board::WholeBoard;
+use crate::over::is_over;
 use mp_match::{Line, Post, Selection};
 
 // The multiplier is 2^64 over the golden ratio (Knuth, The Art of Computer Programming, 6.4).
@@ -52,6 +53,17 @@ pub fn board_key(board: &WholeBoard) -> u64 {
     let mut sum = mixed(4, board.held());
     for line in board.lines() {
         sum = sum.wrapping_add(line_key(line));
+    }
+    sum
+}
+
+/// The same but for posts that are over.
+pub fn live_board_key(board: &WholeBoard) -> u64 {
+    let mut sum = mixed(4, board.held());
+    for (place, line) in board.lines().iter().enumerate() {
+        if !is_over(board, place) {
+            sum = sum.wrapping_add(line_key(line));
+        }
     }
     sum
 }

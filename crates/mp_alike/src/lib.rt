@@ -5,7 +5,10 @@ mod alike;
 mod board;
 mod hub;
 mod key;
+mod live;
+mod live_naming;
 mod names;
+mod over;
 mod pairing;
 mod posts;
 mod sides;
@@ -14,5 +17,6 @@ pub mod worked;
 
 pub use alike::alike_names;
 pub use board::WholeBoard;
+pub use live::live_names;
 pub use names::Names;
 pub use whole::WholeHub;

@@ -55,7 +55,8 @@ impl Names {
     }
 }
 
-fn maker(post: &Post) -> u8
+/// The rank that made the post.
+pub fn maker(post: &Post) -> u8
     ensures { result ≡ maker_of post.now }
 {
     match post {
@@ -65,7 +66,8 @@ fn maker(post: &Post) -> u8
     }
 }
 
-fn is_free(rank: u8, lines: &[Line], back: &[Option<u64>], place: usize) -> bool
+/// Whether a post of the rank stands at the place, and none goes there yet.
+pub fn is_free(rank: u8, lines: &[Line], back: &[Option<u64>], place: usize) -> bool
     ensures { IsTrue result ↔ IsFree rank lines.now back.now place }
 {
     match (lines.get(place), back.get(place)) {

@@ -5,7 +5,7 @@ ghost use Rattle.mp_match.specs.declared.posts.Post.TheVariants as post;
 ghost use Rattle.mp_match.specs.declared.posts.Selection.{Selection};
 ghost use Rattle.mp_alike_laws.specs.Alike.{IsUnpaired};
 ghost use Rattle.mp_alike.specs.Names.{renamed as renamed_by};
-ghost use Rattle.mp_alike.specs.InnerAlike.{AreAlikeBoards, IsAlikeAt, KeepsClaim, KeepsSend, KeepsSends, line_to};
+ghost use Rattle.mp_alike.specs.InnerAlike.{AreAlikeBoards, HasLine, IsAlikeAt, KeepsClaim, KeepsSend, KeepsSends, line_to};
 
 use crate::board::{WholeBoard, line_at};
 use crate::names::renamed;
@@ -56,9 +56,9 @@ fn are_lines_to(to: &[u64], mine: Option<Line>, theirs: Option<Line>) -> bool
     }
 }
 
-fn has_line(to: &[u64], mine: &[Line], theirs: &[Line], place: usize) -> bool
-    ensures { IsTrue result
-        ↔ (slice_get theirs.now (renamed_by to.now place) ≡ option_map (line_to to.now) (slice_get mine.now place)) }
+/// Whether the post at the place and its partner are those of the post where it goes.
+pub fn has_line(to: &[u64], mine: &[Line], theirs: &[Line], place: usize) -> bool
+    ensures { IsTrue result ↔ HasLine to.now mine.now theirs.now place }
 {
     let there = renamed(to, place as u64) as usize;
     are_lines_to(to, line_at(mine, place), line_at(theirs, there))
@@ -74,8 +74,8 @@ fn is_same_body(a: &Option<Bytes>, b: &Option<Bytes>) -> bool
     }
 }
 
-// Whether that message, or that none is held, stands at the place.
-fn has_body_at(bodies: &[Option<Bytes>], place: usize, body: &Option<Bytes>) -> bool
+/// Whether that message, or that none is held, stands at the place.
+pub fn has_body_at(bodies: &[Option<Bytes>], place: usize, body: &Option<Bytes>) -> bool
     ensures { IsTrue result ↔ (slice_get bodies.now place ≡ Some body.now) }
 {
     match bodies.get(place) {
@@ -84,7 +84,8 @@ fn has_body_at(bodies: &[Option<Bytes>], place: usize, body: &Option<Bytes>) -> 
     }
 }
 
-fn has_body(to: &[u64], mine: &[Option<Bytes>], theirs: &[Option<Bytes>], place: usize) -> bool
+/// Whether its message is.
+pub fn has_body(to: &[u64], mine: &[Option<Bytes>], theirs: &[Option<Bytes>], place: usize) -> bool
     ensures { IsTrue result ↔ (slice_get theirs.now (renamed_by to.now place) ≡ slice_get mine.now place) }
 {
     let there = renamed(to, place as u64) as usize;
@@ -105,7 +106,8 @@ fn keeps_place(to: &[u64], line: &Line, place: usize) -> bool
     }
 }
 
-fn keeps_claim(to: &[u64], lines: &[Line], place: usize) -> bool
+/// Whether the post at the place keeps it if it's a claim.
+pub fn keeps_claim(to: &[u64], lines: &[Line], place: usize) -> bool
     ensures { IsTrue result ↔ KeepsClaim to.now lines.now place }
 {
     match lines.get(place) {
@@ -190,7 +192,8 @@ fn keeps_sends_at(to: &[u64], lines: &[Line], place: usize) -> bool
     }
 }
 
-fn keeps_sends(to: &[u64], lines: &[Line]) -> bool
+/// Whether the sends without a partner to each rank in each communicator stay in their order.
+pub fn keeps_sends(to: &[u64], lines: &[Line]) -> bool
     ensures { IsTrue result ↔ KeepsSends to.now lines.now }
 {
     for place in 0..lines.len() {

@@ -8,7 +8,7 @@ ghost use Rattle.rv_image_types.specs.declared.images.Link.{Link};
 
 use crate::board::WholeBoard;
 use crate::hub::Answering;
-use crate::key::board_key;
+use crate::key::{board_key, live_board_key};
 use mp_hub::{HubParts, HubState};
 use mp_probe::Waiting;
 use mp_transfers::Side;
@@ -81,6 +81,11 @@ impl WholeHub {
     /// another. No clause says so, so nothing may rest on it.
     pub fn key(&self) -> u64 {
         board_key(self.inner.board())
+    }
+
+    /// The same for hubs whose posts that are over may be any that are: these are left out. No clause says so.
+    pub fn live_key(&self) -> u64 {
+        live_board_key(self.inner.board())
     }
 
     /// The initialisations that weren't refused.

@@ -4,8 +4,10 @@ ghost use Rattle.std.specs.Prelude.{◌≡◌, ◌∷◌, [], None, IfOk, IsSome
 ghost use Rattle.mp_types.specs.declared.requests.Request.TheVariants as request;
 ghost use Rattle.mp_hub.specs.RankRows.{sends_in};
 ghost use Rattle.mp_alike_laws.specs.Rows.{after, claims_any, sends_sync};
+ghost use Rattle.mp_source_laws.specs.Rows.{first_complete, sent_to_receive};
 
 use crate::alike::alike_names;
+use crate::live::live_names;
 use crate::names::Names;
 use crate::whole::WholeHub;
 use std::alloc::{AllocError, Global};
@@ -67,4 +69,22 @@ pub fn one_complete(alloc: Global, a: &WholeHub, b: &WholeHub) -> Result<Option<
     ensures { IfOk result (λ found. found ≡ None) }
 {
     alike_names(alloc, a, b)
+}
+
+/// Where posts that are over may be any that are, there are none either if a message is held in one of the two.
+pub fn still_held(alloc: Global, a: &WholeHub, b: &WholeHub) -> Result<Option<Names>, AllocError>
+    requires first { a.now ≡ sent_to_receive [] }
+    requires second { b.now ≡ sent_to_receive ((1, request.Collect 1) ∷ []) }
+    ensures { IfOk result (λ found. found ≡ None) }
+{
+    live_names(alloc, a, b)
+}
+
+/// Nor where another of two synchronous sends is complete, though its message was collected: these are never over.
+pub fn never_over(alloc: Global, a: &WholeHub, b: &WholeHub) -> Result<Option<Names>, AllocError>
+    requires first { a.now ≡ first_complete 0 2 }
+    requires second { b.now ≡ first_complete 2 0 }
+    ensures { IfOk result (λ found. found ≡ None) }
+{
+    live_names(alloc, a, b)
 }

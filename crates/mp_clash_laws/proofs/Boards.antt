@@ -1,5 +1,5 @@
 -- Boards with two posts of two ranks more, in one order and in the other.
-use Rattle.std.proofs.Common.{◌≡◌, ℕ, zero, suc, ◌+◌, ◌<◌, inl, inr, List, [], ◌∷◌, ◌++◌, length, Option, Some, None, refl, sym, ap, ◌∙◌, subst, arith, add-one}
+use Rattle.std.proofs.Common.{◌≡◌, ℕ, zero, suc, ◌+◌, ◌<◌, inl, inr, List, [], ◌∷◌, ◌++◌, length, Option, Some, None, refl, sym, ap, ◌∙◌, subst, arith}
 use Rattle.std.specs.Prelude.{◌≢◌, true}
 use Rattle.std.specs.List.{slice_get}
 use Rattle.std.specs.Option.{option_map}
@@ -11,13 +11,13 @@ use Rattle.mp_match.specs.declared.posts.Post.TheVariants.{Send, Receive, Claim}
 use Rattle.mp_match.specs.declared.posts.Selection.{Selection}
 use Rattle.mp_match.specs.declared.posts.Sent.{Sent}
 use Rattle.mp_match.specs.Board.{Board, board_with}
-use Rattle.mp_match.specs.Pairs.{add, partner_for}
+use Rattle.mp_match.specs.Pairs.{add}
 use Rattle.mp_match.proofs.Lines.{Look, add_length, is_given, is_new, is_old, look}
 use Rattle.mp_match.proofs.OrderKept.{Good}
 use Rattle.mp_match.proofs.Places.{get_front, get_last, get_within}
 use Rattle.mp_alike_laws.specs.Renaming.{line_by}
 use Rattle.mp_alike_laws.specs.Alike.{maker}
-use Rattle.mp_source_laws.specs.Alike.{AlikeBoards, Wild}
+use Rattle.mp_source_laws.specs.Alike.{AlikeBoards, Wild, is_same}
 use Rattle.mp_clash_laws.proofs.Swaps.{at_first, at_second, below, beyond, keeps, swap, to_other}
 use Rattle.mp_clash_laws.proofs.Two.{last_one, new_line, one, other, two_longer}
 
@@ -137,7 +137,7 @@ module _ (wild : Wild) (b : Board) (p q : Post) (x y : Option (List ℕ)) (good 
   two_alike = record {
     many = long;
     next = λ place past. beyond here_n place (let e = many_places in omega (arith, e, past));
-    lines = same;
+    lines = λ place. is_same (same place);
     bodies = λ place.
         subst (λ k. slice_get ((b.bodies ++ x ∷ []) ++ y ∷ []) (to_other k place)
         ≡ slice_get ((b.bodies ++ y ∷ []) ++ x ∷ []) place) even (two_items b.bodies x y place);
@@ -155,7 +155,7 @@ module _ (wild : Wild) (b : Board) (p q : Post) (x y : Option (List ℕ)) (good 
             omega (arith, w, e, not_first, not_second))
       ]
     ];
-    ranks = λ i j m l before here there by.
+    ranks = λ i j m l before here there by live alive.
         keeps here_n i j before
         (not_both i j m l here there (λ e f. makers (sym (ap maker f) ∙ sym by ∙ ap maker e)));
     sends = λ i j s t before here there dest comm any.

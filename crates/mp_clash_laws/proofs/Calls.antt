@@ -1,12 +1,10 @@
 -- Two calls that post, of two ranks: whichever is first.
-use Rattle.std.proofs.Common.{◌≡◌, ℕ, zero, suc, ◌+◌, ◌<◌, ◌⊎◌, inl, inr, List, [], ◌∷◌, ◌++◌, length, Bool, true, false, cond, not, Option, Some, None, refl, sym, ap, ◌∙◌, subst, arith, add-one}
-use Rattle.std.specs.Prelude.{◌≢◌, ◌||◌, ◌&&◌}
+use Rattle.std.proofs.Common.{◌≡◌, ℕ, zero, suc, ◌+◌, ◌<◌, ◌⊎◌, inl, inr, List, [], ◌∷◌, length, Bool, true, false, not, Option, Some, None, refl, sym, ap, ◌∙◌, subst, arith}
+use Rattle.std.specs.Prelude.{◌≢◌, ◌||◌}
 use Rattle.std.specs.List.{slice_get, slice_set}
-use Rattle.std.specs.Option.{is_some, option_map}
-use Rattle.std.proofs.lemmas.Bool.{and_from, cases_Bool, cond-true, eq-eqb, eqb-true, false_from_ne_true, not_from_false, or_right}
+use Rattle.std.specs.Option.{is_some}
+use Rattle.std.proofs.lemmas.Bool.{eqb-true}
 use Rattle.std.proofs.lemmas.Option.{same_Some}
-use Rattle.rv_image_types.specs.declared.images.Link.{Link}
-use Rattle.mp_types.specs.declared.codes.Code.TheVariants.{BadRequest}
 use Rattle.mp_types.specs.declared.messages.Message.{Message}
 use Rattle.mp_types.specs.declared.replies.Reply.{Reply}
 use Rattle.mp_types.specs.declared.replies.Reply.TheVariants as reply
@@ -17,29 +15,25 @@ use Rattle.mp_match.specs.declared.posts.Post.{Post}
 use Rattle.mp_match.specs.declared.posts.Post.TheVariants as post
 use Rattle.mp_match.specs.declared.posts.Selection.{Selection}
 use Rattle.mp_match.specs.declared.posts.Sent.{Sent}
-use Rattle.mp_match.specs.Board.{Board, board_with, collect, collect_from, is_collected, is_gone, is_held, is_receive_of, line_of, message_at, partner_of, without}
-use Rattle.mp_match.specs.Pairs.{accepts, add, admits, may_pair, partner_for, partner_of_line}
+use Rattle.mp_match.specs.Board.{Board, board_with, message_at, without}
+use Rattle.mp_match.specs.Pairs.{add, admits, may_pair, partner_for}
 use Rattle.mp_match.proofs.Lines.{add_length}
 use Rattle.mp_match.proofs.OrderKept.{chosen}
-use Rattle.mp_match.proofs.Places.{get_front, get_last, get_within}
-use Rattle.mp_hub.specs.Hub.{HubView, got_or, may_collect, outcome, selecting, sending, with_board}
-use Rattle.mp_probe.specs.Claims.{is_waiting}
+use Rattle.mp_match.proofs.Places.{get_front, get_within}
+use Rattle.mp_hub.specs.Hub.{HubView, outcome, selecting, sending, with_board}
 use Rattle.mp_wait_laws.proofs.Fresh.{Laid}
 use Rattle.mp_wait_laws.proofs.Lines.{accepted, post_stays}
 use Rattle.mp_wait_laws.proofs.Sets.{get-set_other}
-use Rattle.mp_wait_laws.proofs.Owned.{somebody's}
-use Rattle.mp_alike_laws.specs.Renaming.{Renaming, line_by, number_by}
+use Rattle.mp_alike_laws.specs.Renaming.{Renaming, number_by}
 use Rattle.mp_alike_laws.specs.Alike.{maker}
 use Rattle.mp_source_laws.specs.Alike.{AlikeBoards, AlikeHubs, Wild}
 use Rattle.mp_source_laws.specs.Laws.{AsksFrom}
-use Rattle.mp_source_laws.proofs.Answers.{boarded}
 use Rattle.mp_source_laws.proofs.Collecting.{without_alike}
-use Rattle.mp_source_laws.proofs.Likeness.{itself}
-use Rattle.mp_clash_laws.specs.Exchanges.{AreTold, CollectsLater, IsPosting, MayExchange, NoRace, NoSync, WaitsWithin, behind, next_of, reply_by}
+use Rattle.mp_clash_laws.specs.Exchanges.{IsPosting, MayExchange, NoRace, WaitsWithin, behind, reply_by}
 use Rattle.mp_clash_laws.proofs.Boards.{IsNoRace, IsPlain, item_at, snoc_length, two_alike}
 use Rattle.mp_clash_laws.proofs.Postings.{board_at, body_of, emptied_at, emptied_lines, emptied_more, emptied_twice, message_emptied, message_more, message_of, partner_in, post_of, posted, posting, taken_of, told_at, told_of}
-use Rattle.mp_clash_laws.proofs.Swaps.{at_first, at_second, below, swap, to_other}
-use Rattle.mp_clash_laws.proofs.Two.{ArePair, ArentPair, HaveOwn, finds_none, last_other, lines_apart, lines_pair, new_line, new_partner, one, other, pair_back, pair_there, same_partner}
+use Rattle.mp_clash_laws.proofs.Swaps.{at_first, at_second, below, swap}
+use Rattle.mp_clash_laws.proofs.Two.{ArePair, ArentPair, HaveOwn, lines_apart, lines_pair, new_partner, other, pair_back, same_partner}
 
 -- ---- who has which partner
 

@@ -1,24 +1,20 @@
 -- A receive that is posted before its message is sent collects it behind the send.
-use Rattle.std.proofs.Common.{◌≡◌, ℕ, suc, ◌+◌, ◌<◌, ◌⊎◌, inl, inr, List, [], ◌∷◌, ◌++◌, length, Bool, true, false, cond, not, Option, Some, None, refl, sym, ap, ◌∙◌, subst, arith, add-one}
-use Rattle.std.specs.Prelude.{◌≢◌, ◌&&◌}
+use Rattle.std.proofs.Common.{◌≡◌, ℕ, suc, ◌+◌, ◌<◌, ◌⊎◌, inl, inr, List, length, true, false, not, Option, Some, None, refl, sym, ap, ◌∙◌, subst, arith, add-one}
+use Rattle.std.specs.Prelude.{◌≢◌}
 use Rattle.std.specs.List.{slice_get}
 use Rattle.std.proofs.lemmas.Bool.{and_from, cond-true, eq-eqb, false_from_ne_true, not_from_false}
-use Rattle.rv_image_types.specs.declared.images.Link.{Link}
 use Rattle.mp_types.specs.declared.codes.Code.TheVariants.{BadRequest}
-use Rattle.mp_types.specs.declared.messages.Envelope.{Envelope}
 use Rattle.mp_types.specs.declared.messages.Message.{Message}
 use Rattle.mp_types.specs.declared.replies.Reply.{Reply}
 use Rattle.mp_types.specs.declared.replies.Reply.TheVariants as reply
 use Rattle.mp_types.specs.declared.requests.Request.{Request}
-use Rattle.mp_types.specs.declared.requests.Request.TheVariants.{Send, Recv, Collect, Finished, Probe, Claim, Claimed, All, Init, Cut}
-use Rattle.mp_match.specs.declared.posts.Line.{Line}
+use Rattle.mp_types.specs.declared.requests.Request.TheVariants.{Send, Recv, Collect}
 use Rattle.mp_match.specs.declared.posts.Post.{Post}
-use Rattle.mp_match.specs.declared.posts.Post.TheVariants as post
-use Rattle.mp_match.specs.Board.{Board, board_with, collect, collect_from, envelope_in, is_gone, is_held, is_receive_of, line_of, message_at, message_in, partner_of, without}
-use Rattle.mp_match.specs.Pairs.{accepts, may_pair, partner_for, partner_of_line}
+use Rattle.mp_match.specs.Board.{Board, board_with, collect, collect_from, envelope_in, is_gone, is_held, is_receive_of, message_at, message_in, without}
+use Rattle.mp_match.specs.Pairs.{partner_for, partner_of_line}
 use Rattle.mp_match.proofs.Lines.{add_given, add_length, add_new}
 use Rattle.mp_match.proofs.Places.{get_within}
-use Rattle.mp_hub.specs.Hub.{Call, HubView, got_or, hub_after, may_collect, message_or, outcome, selecting, sending, with_board}
+use Rattle.mp_hub.specs.Hub.{HubView, got_or, hub_after, may_collect, message_or, outcome, selecting, sending, with_board}
 use Rattle.mp_probe.specs.Claims.{is_waiting}
 use Rattle.mp_wait_laws.proofs.Fresh.{Laid}
 use Rattle.mp_wait_laws.proofs.Lines.{accepted}
@@ -26,13 +22,13 @@ use Rattle.mp_wait_laws.proofs.Owned.{somebody's}
 use Rattle.mp_wait_laws.proofs.Waits.{laid_after}
 use Rattle.mp_source_laws.specs.Alike.{AlikeBoards, AlikeHubs, Wild}
 use Rattle.mp_source_laws.proofs.Collecting.{without_alike}
-use Rattle.mp_clash_laws.specs.Exchanges.{CollectsLater, IsPosting, MayExchange, NoRace, NoSync, WaitsWithin, behind, next_of, reply_by}
+use Rattle.mp_clash_laws.specs.Exchanges.{CollectsLater, IsPosting, MayExchange, NoRace, NoSync, WaitsWithin, behind, reply_by}
 use Rattle.mp_clash_laws.specs.Laws.{PostsLaw}
 use Rattle.mp_clash_laws.proofs.Boards.{first_of, last_of}
-use Rattle.mp_clash_laws.proofs.Calls.{before_number, exchange_apart, exchange_paired, first_r, first_s, hubs_of, mine_pair, own, pair_or_not, paired_boards, plain, second_r, second_s, theirs_pair}
-use Rattle.mp_clash_laws.proofs.Postings.{board_at, emptied_at, message_of, partner_in, post_of, posted, taken_of, told_at, told_of}
+use Rattle.mp_clash_laws.proofs.Calls.{before_number, exchange_apart, exchange_paired, first_r, first_s, hubs_of, mine_pair, own, pair_or_not, paired_boards, plain, second_r, second_s}
+use Rattle.mp_clash_laws.proofs.Postings.{board_at, emptied_at, post_of, posted, told_at}
 use Rattle.mp_clash_laws.proofs.Swaps.{at_first, below, swap}
-use Rattle.mp_clash_laws.proofs.Two.{ArePair, ArentPair, last_other, new_line, new_partner, one, other, pair_there}
+use Rattle.mp_clash_laws.proofs.Two.{ArePair, last_other, new_line, new_partner, other, pair_there}
 
 -- no message waits under the number of the next post
 no_claim_yet : (h : HubView) → Laid h → is_waiting h.claims (suc (length h.board.lines)) ≡ false

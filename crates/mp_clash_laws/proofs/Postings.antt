@@ -1,5 +1,5 @@
 -- Calls that make a post: what they are told, and the board behind them.
-use Rattle.std.proofs.Common.{◌≡◌, ℕ, zero, suc, ◌+◌, ◌<◌, ◌≤◌, inl, inr, List, [], ◌∷◌, ◌++◌, length, Bool, true, false, cond, not, Option, Some, None, refl, sym, ap, ◌∙◌, subst, arith, add-one}
+use Rattle.std.proofs.Common.{◌≡◌, ℕ, zero, suc, ◌+◌, ◌<◌, List, [], ◌∷◌, ◌++◌, length, true, false, not, Option, Some, None, refl, sym, ap, ◌∙◌, arith, add-one}
 use Rattle.std.specs.Prelude.{◌≢◌, ◌||◌, nat_lt}
 use Rattle.std.specs.List.{slice_get, slice_set}
 use Rattle.std.specs.Option.{is_some}
@@ -13,12 +13,12 @@ use Rattle.mp_types.specs.declared.requests.Request.TheVariants.{Send, Recv, Col
 use Rattle.mp_match.specs.declared.posts.Line.{Line}
 use Rattle.mp_match.specs.declared.posts.Post.{Post}
 use Rattle.mp_match.specs.declared.posts.Post.TheVariants as post
-use Rattle.mp_match.specs.Board.{Board, board_with, collect, collect_from, envelope_at, envelope_in, held_count, message_at, message_in, partner_of, receive_posted, without}
-use Rattle.mp_match.specs.Pairs.{add, partner_for, partner_of_line}
+use Rattle.mp_match.specs.Board.{Board, board_with, collect_from, envelope_at, envelope_in, held_count, message_at, message_in, partner_of, receive_posted, without}
+use Rattle.mp_match.specs.Pairs.{partner_for, partner_of_line}
 use Rattle.mp_match.proofs.Lines.{add_new}
 use Rattle.mp_match.proofs.Places.{get_front}
 use Rattle.mp_match.proofs.Rows.{held_below}
-use Rattle.mp_hub.specs.Hub.{HubView, got_or, is_done, message_or, outcome, selecting, sending, with_board}
+use Rattle.mp_hub.specs.Hub.{HubView, got_or, message_or, outcome, selecting, sending, with_board}
 use Rattle.mp_probe.specs.Claims.{next_number}
 use Rattle.mp_wait_laws.proofs.Lines.{post_stays}
 use Rattle.mp_wait_laws.proofs.Sets.{get-set_other}

@@ -1,21 +1,21 @@
 -- What a rank may ask for, and what it may not, is changed by no post of another rank.
-use Rattle.std.proofs.Common.{◌≡◌, ℕ, zero, suc, ◌+◌, ◌<◌, ◌⊎◌, inl, inr, List, [], ◌∷◌, ◌++◌, length, Bool, true, false, cond, not, Option, Some, None, refl, sym, ap, ◌∙◌, subst, arith}
+use Rattle.std.proofs.Common.{◌≡◌, ℕ, zero, suc, ◌<◌, ◌⊎◌, inl, inr, List, [], ◌∷◌, ◌++◌, length, Bool, true, false, cond, not, Option, Some, None, refl, sym, ap, ◌∙◌, subst, arith}
 use Rattle.std.specs.Prelude.{◌≢◌, ◌&&◌, ◌||◌}
-use Rattle.std.specs.List.{list_all, slice_get, slice_set}
+use Rattle.std.specs.List.{list_all, slice_get}
 use Rattle.std.proofs.lemmas.Bool.{cases_Bool, cases_eq, cases_order, cond-false, ne_eqb}
 use Rattle.std.proofs.lemmas.Option.{same_Some, slice_get_past}
 use Rattle.mp_types.specs.declared.codes.Code.TheVariants.{BadRequest}
 use Rattle.mp_types.specs.declared.replies.Reply.{Reply}
 use Rattle.mp_types.specs.declared.replies.Reply.TheVariants as reply
 use Rattle.mp_types.specs.declared.requests.Request.{Request}
-use Rattle.mp_types.specs.declared.requests.Request.TheVariants.{Send, Recv, Collect, Finished, Probe, Claim, Claimed, All, Init, Cut}
+use Rattle.mp_types.specs.declared.requests.Request.TheVariants.{Send, Recv, Collect, Finished, All}
 use Rattle.mp_match.specs.declared.posts.Line.{Line}
 use Rattle.mp_match.specs.declared.posts.Post.{Post}
 use Rattle.mp_match.specs.declared.posts.Post.TheVariants as post
 use Rattle.mp_match.specs.declared.posts.Selection.{Selection}
-use Rattle.mp_match.specs.Board.{Board, board_with, collect, is_collected, is_gone, is_held, is_receive_of, is_send_of, line_of, partner_of, without}
+use Rattle.mp_match.specs.Board.{Board, collect, is_collected, is_gone, is_held, is_receive_of, is_send_of, line_of}
 use Rattle.mp_match.specs.Pairs.{add, may_pair, partner_for, partner_of_line}
-use Rattle.mp_match.proofs.Lines.{add_given, add_length, add_new, add_old, given}
+use Rattle.mp_match.proofs.Lines.{add_given, add_length, add_new, add_old}
 use Rattle.mp_match.proofs.OrderKept.{chosen}
 use Rattle.mp_match.proofs.Places.{get_front, get_last, get_within}
 use Rattle.mp_probe.specs.Claims.{is_waiting}

@@ -1,12 +1,13 @@
 -- Worked rows of clashes.
-use Rattle.std.proofs.Common.{◌≡◌, ℕ, [], ◌∷◌, true, false, None, Some, refl, arith}
+use Rattle.std.proofs.Common.{ℕ, zero, suc, inl, inr, [], ◌∷◌, false, None, refl, arith}
 use Rattle.mp_types.specs.declared.requests.Request.{Request}
 use Rattle.mp_types.specs.declared.requests.Request.TheVariants as request
 use Rattle.mp_hub.specs.Hub.{HubView, hub_after}
 use Rattle.mp_alike_laws.proofs.Rows.{worked_hubs}
 use Rattle.mp_alike_laws.specs.Renaming.{Renaming}
 use Rattle.mp_alike_laws.specs.Alike.{AlikeHubs as SameHubs}
-use Rattle.mp_source_laws.specs.Alike.{AlikeHubs}
+use Rattle.mp_source_laws.specs.Alike.{AlikeHubs, IsOver}
+use Rattle.mp_source_laws.proofs.Over.{free_is_live, same_or_over}
 use Rattle.mp_wait_laws.proofs.Waits.{laid_after}
 use Rattle.mp_clash_laws.specs.Rows.{AnySource, NamedSources, PostedFirst, WorkedClashes, everybody, nobody}
 use Rattle.mp_clash_laws.proofs.Calls.{exchange_apart}
@@ -26,17 +27,18 @@ named_sources =
     (record { one = λ a b. refl; other = λ a b. refl }) in
     (x.names, x.hubs)
 
--- where everybody may ask for any source likeness keeps the order of all messages
-all_kept : (names : Renaming) (a b : HubView) → AlikeHubs everybody names a b → SameHubs names a b
-all_kept names a b f = record {
+-- where everybody may ask for any source, and no post is over, likeness keeps the order of all messages
+all_kept : (names : Renaming) (a b : HubView) → ((place : ℕ) → IsOver a.board place → ⊥) → AlikeHubs everybody names a b
+    → SameHubs names a b
+all_kept names a b live f = record {
   links = f.links;
   board = record {
     many = (f.board).many;
     next = (f.board).next;
-    lines = (f.board).lines;
+    lines = λ place. same_or_over names a.board b.board place ((f.board).lines place) (live place);
     bodies = (f.board).bodies;
     claims = (f.board).claims;
-    ranks = (f.board).ranks;
+    ranks = λ i j m n below here there same. (f.board).ranks i j m n below here there same (live i) (live j);
     sends = λ i j s t below here there dest comm. (f.board).sends i j s t below here there dest comm refl;
   };
   claims = f.claims;
@@ -45,8 +47,20 @@ all_kept names a b f = record {
   senders = f.senders;
 }
 
+-- two messages that nobody received aren't over
+both_wait : HubView
+both_wait = hub_after [] ((0, first) ∷ (1, second) ∷ [])
+
+none_over : (place : ℕ) → IsOver both_wait.board place → ⊥
+unfolding both_wait first second
+none_over zero over = free_is_live both_wait.board zero _ refl refl over
+none_over (suc zero) over = free_is_live both_wait.board (suc zero) _ refl refl over
+none_over (suc (suc place)) (inl over) = (let e = over.there in absurd (cc))
+none_over (suc (suc place)) (inr over) = (let e = over.there in absurd (cc))
+
 any_source : AnySource
-any_source alike = worked_hubs.one_rank (alike.0, all_kept alike.0 _ _ alike.1)
+unfolding both_wait first second
+any_source alike = worked_hubs.one_rank (alike.0, all_kept alike.0 _ _ none_over alike.1)
 
 posted_first : PostedFirst
 posted_first =

@@ -1,14 +1,12 @@
 -- Two posts of two ranks, in one order and in the other.
-use Rattle.std.proofs.Common.{◌≡◌, ℕ, zero, suc, ◌+◌, ◌<◌, ◌⊎◌, inl, inr, List, [], ◌∷◌, ◌++◌, length, Bool, true, false, Option, Some, None, refl, sym, ap, ◌∙◌, subst, arith, add-one}
-use Rattle.std.specs.Prelude.{◌≢◌, ◌&&◌}
+use Rattle.std.proofs.Common.{◌≡◌, ℕ, zero, suc, ◌+◌, ◌<◌, ◌⊎◌, inl, inr, List, [], ◌∷◌, length, true, false, Option, Some, None, refl, sym, ap, ◌∙◌, subst, arith, add-one}
 use Rattle.std.specs.List.{slice_get}
 use Rattle.std.specs.Option.{option_map}
-use Rattle.std.proofs.lemmas.Bool.{and_left, and_right, cases_eq, cases_lt, cases_order}
+use Rattle.std.proofs.lemmas.Bool.{cases_eq, cases_order}
 use Rattle.std.proofs.lemmas.Option.{same_Some, slice_get_past}
 use Rattle.mp_match.specs.declared.posts.Line.{Line}
 use Rattle.mp_match.specs.declared.posts.Post.{Post}
-use Rattle.mp_match.specs.declared.posts.Post.TheVariants.{Send, Receive, Claim}
-use Rattle.mp_match.specs.Pairs.{add, fits, is_free, may_pair, partner_for}
+use Rattle.mp_match.specs.Pairs.{add, fits, may_pair, partner_for}
 use Rattle.mp_match.proofs.Lines.{Look, add_given, add_length, add_new, add_old, given, is_given, is_new, is_old, look}
 use Rattle.mp_match.proofs.OrderKept.{Good}
 use Rattle.mp_match.proofs.Places.{found_first, found_none, get_within}

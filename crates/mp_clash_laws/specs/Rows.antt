@@ -1,5 +1,5 @@
 -- Worked rows: calls that may be exchanged, and calls that clash. A message has one byte.
-use Rattle.std.specs.Prelude.{ℕ, ◌≡◌, Bool, true, false, [], ◌∷◌, None}
+use Rattle.std.specs.Prelude.{◌≡◌, true, false, [], ◌∷◌, None}
 use Rattle.mp_types.specs.declared.replies.Reply.TheVariants.{Posted}
 use Rattle.mp_types.specs.declared.requests.Request.TheVariants as request
 use Rattle.mp_hub.specs.Hub.{reply_of}

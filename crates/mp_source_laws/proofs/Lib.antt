@@ -1,3 +1,4 @@
+pub mod Over
 pub mod Likeness
 pub mod Partners
 pub mod Posting
@@ -5,3 +6,4 @@ pub mod Collecting
 pub mod Held
 pub mod Named
 pub mod Answers
+pub mod Rows

@@ -12,8 +12,9 @@ use Rattle.mp_match.specs.Board.{Board}
 use Rattle.mp_hub.specs.Hub.{HubView}
 use Rattle.mp_alike_laws.specs.Renaming.{Renaming, followed_by, line_by, no_renaming, turned}
 use Rattle.mp_alike_laws.specs.Alike.{IsUnpaired, maker}
-use Rattle.mp_source_laws.specs.Alike.{AlikeBoards, AlikeHubs, Wild}
+use Rattle.mp_source_laws.specs.Alike.{AlikeBoards, AlikeHubs, IsAlikeAt, IsOver, IsOverReceive, IsOverSend, Wild, is_same, over_receives, over_sends}
 use Rattle.mp_source_laws.specs.Laws.{AreAlike, LikenessLaw}
+use Rattle.mp_source_laws.proofs.Over.{claim_is_live, free_is_live, one_way, over_here, over_there, receive_here, receive_there, same_or_over, send_here, send_there}
 
 -- ---- itself
 
@@ -32,10 +33,10 @@ itself a = record {
   board = record {
     many = refl;
     next = λ place past. refl;
-    lines = λ place. same_line (slice_get a.board.lines place);
+    lines = λ place. is_same (same_line (slice_get a.board.lines place));
     bodies = λ place. refl;
     claims = λ place line what here is. refl;
-    ranks = λ i j m n below here there same. below;
+    ranks = λ i j m n below here there same live alive. below;
     sends = λ i j s t below here there dest comm any. below;
   };
   claims = refl;
@@ -63,11 +64,19 @@ pub record Origin (names : Renaming) (a : Board) (place : ℕ) (line : Line) : T
   pub here : slice_get a.lines (names.back place) ≡ Some from
   pub is : line ≡ line_by names from
 
+-- a post of the one that isn't over isn't in the other
+pub live_back : {wild : Wild} → (names : Renaming) (a b : Board) → AlikeBoards wild names a b → (place : ℕ)
+    → (IsOver b place → ⊥) → IsOver a (names.back place) → ⊥
+live_back names a b alike place live over =
+    live (subst (IsOver b) (names.again place)
+    (over_there names a b alike.bodies (names.back place) (alike.lines (names.back place)) over))
+
 pub origin : {wild : Wild} → (names : Renaming) (a b : Board) → AlikeBoards wild names a b → (place : ℕ) (line : Line)
-    → slice_get b.lines place ≡ Some line → Origin names a place line
-origin names a b alike place line here =
+    → slice_get b.lines place ≡ Some line → (IsOver b place → ⊥) → Origin names a place line
+origin names a b alike place line here live =
     go (slice_get a.lines (names.back place)) refl
-    (sym (alike.lines (names.back place)) ∙ ap (slice_get b.lines) (names.again place) ∙ here)
+    (sym (same_or_over names a b (names.back place) (alike.lines (names.back place)) (live_back names a b alike place live))
+    ∙ ap (slice_get b.lines) (names.again place) ∙ here)
   where
     go : (o : Option Line) → slice_get a.lines (names.back place) ≡ o → option_map (line_by names) o ≡ Some line
         → Origin names a place line
@@ -95,21 +104,20 @@ board_back {wild} names a b alike = record {
   next = λ place past.
       let e : names.to place ≡ place = alike.next place (let m = alike.many in omega (arith, past, m)) in
       sym (ap names.back e) ∙ names.there place;
-  lines = λ place.
-      sym (back_line names (slice_get a.lines (names.back place)))
-      ∙ ap (option_map (line_by (turned names))) (sym (alike.lines (names.back place)) ∙ ap (slice_get b.lines) (names.again place));
+  lines = λ place. line_back place (alike.lines (names.back place));
   bodies = λ place. sym (alike.bodies (names.back place)) ∙ ap (slice_get b.bodies) (names.again place);
   claims = λ place line what here is.
-      let o = origin names a b alike place line here in
+      let o = origin names a b alike place line here (claim_is_live b place line what here is) in
       let same : names.to (names.back place) ≡ names.back place = alike.claims (names.back place) o.from what o.here
       (sym (ap (λ (z : Line). z.post) o.is) ∙ is) in
       sym same ∙ names.again place;
-  ranks = λ i j m n below here there same.
-      let o = origin names a b alike i m here in
-      let p = origin names a b alike j n there in
+  ranks = λ i j m n below here there same live alive.
+      let o = origin names a b alike i m here live in
+      let p = origin names a b alike j n there alive in
       from_order names i j below (λ wrong.
       let t = alike.ranks (names.back j) (names.back i) p.from o.from wrong p.here o.here
-      (sym (ap (λ (z : Line). maker z.post) p.is) ∙ sym same ∙ ap (λ (z : Line). maker z.post) o.is) in
+      (sym (ap (λ (z : Line). maker z.post) p.is) ∙ sym same ∙ ap (λ (z : Line). maker z.post) o.is)
+      (live_back names a b alike j alive) (live_back names a b alike i live) in
       subst (λ k. k < i) (names.again j) (subst (λ k. names.to (names.back j) < k) (names.again i) t));
   sends = λ i j s t below here there dest comm any.
       from_order names i j below (λ wrong.
@@ -118,9 +126,17 @@ board_back {wild} names a b alike = record {
       subst (λ k. k < i) (names.again j) (subst (λ k. names.to (names.back j) < k) (names.again i) u));
 }
   where
+    line_back : (place : ℕ) → IsAlikeAt names a b (names.back place) → IsAlikeAt (turned names) b a place
+    line_back place (is_same same) = is_same
+        (sym (back_line names (slice_get a.lines (names.back place)))
+        ∙ ap (option_map (line_by (turned names))) (sym same ∙ ap (slice_get b.lines) (names.again place)))
+    line_back place (over_sends mine theirs) = over_sends (subst (IsOverSend b) (names.again place) theirs) mine
+    line_back place (over_receives mine theirs) = over_receives (subst (IsOverReceive b) (names.again place) theirs) mine
+
     unpaired : (i : ℕ) (s : Sent) → IsUnpaired b.lines i s → IsUnpaired a.lines (names.back i) s
     unpaired i s here =
-        let o = origin names a b alike i (record { post = Send s; partner = None }) here in
+        let line : Line = record { post = Send s; partner = None } in
+        let o = origin names a b alike i line here (free_is_live b i line here refl) in
         let post : (o.from).post ≡ Send s = sym (ap (λ (z : Line). z.post) o.is) in
         let partner : (o.from).partner ≡ None = none_back names (o.from).partner (sym (ap (λ (z : Line). z.partner) o.is)) in
         o.here ∙ ap (λ (z : Line). Some z) (line_is o.from post partner)
@@ -162,21 +178,45 @@ board_on names more a b c f g = record {
   many = g.many ∙ f.many;
   next = λ place past.
       ap more.to (f.next place past) ∙ g.next place (let m = f.many in omega (arith, past, m));
-  lines = λ place.
-      g.lines (names.to place) ∙ ap (option_map (line_by more)) (f.lines place)
-      ∙ on_line names more (slice_get a.lines place);
+  lines = λ place. line_on place (f.lines place) (g.lines (names.to place));
   bodies = λ place. g.bodies (names.to place) ∙ f.bodies place;
   claims = λ place line what here is.
       let same : names.to place ≡ place = f.claims place line what here is in
       ap more.to same ∙ g.claims place (line_by names line) what
-      (ap (slice_get b.lines) (sym same) ∙ f.lines place ∙ ap (option_map (line_by names)) here) is;
-  ranks = λ i j m n below here there same.
-      g.ranks (names.to i) (names.to j) (line_by names m) (line_by names n) (f.ranks i j m n below here there same)
-      (f.lines i ∙ ap (option_map (line_by names)) here) (f.lines j ∙ ap (option_map (line_by names)) there) same;
+      (ap (slice_get b.lines) (sym same) ∙ goes place line here (claim_is_live a place line what here is)) is;
+  ranks = λ i j m n below here there same live alive.
+      g.ranks (names.to i) (names.to j) (line_by names m) (line_by names n) (f.ranks i j m n below here there same live alive)
+      (goes i m here live) (goes j n there alive) same
+      (λ over. live (over_here names a b f.bodies i (f.lines i) over))
+      (λ over. alive (over_here names a b f.bodies j (f.lines j) over));
   sends = λ i j s t below here there dest comm any.
+      let one : Line = record { post = Send s; partner = None } in
+      let other : Line = record { post = Send t; partner = None } in
       g.sends (names.to i) (names.to j) s t (f.sends i j s t below here there dest comm any)
-      (f.lines i ∙ ap (option_map (line_by names)) here) (f.lines j ∙ ap (option_map (line_by names)) there) dest comm any;
+      (goes i one here (free_is_live a i one here refl)) (goes j other there (free_is_live a j other there refl)) dest comm any;
 }
+  where
+    goes : (i : ℕ) (m : Line) → slice_get a.lines i ≡ Some m → (IsOver a i → ⊥)
+        → slice_get b.lines (names.to i) ≡ Some (line_by names m)
+    goes i m here live = same_or_over names a b i (f.lines i) live ∙ ap (option_map (line_by names)) here
+
+    line_on : (place : ℕ) → IsAlikeAt names a b place → IsAlikeAt more b c (names.to place)
+        → IsAlikeAt (followed_by names more) a c place
+    line_on place (is_same same) (is_same then) = is_same
+        (then ∙ ap (option_map (line_by more)) same ∙ on_line names more (slice_get a.lines place))
+    line_on place (is_same same) (over_sends mine theirs) = over_sends (send_here names a b f.bodies place same mine) theirs
+    line_on place (is_same same) (over_receives mine theirs) =
+        over_receives (receive_here names a b f.bodies place same mine) theirs
+    line_on place (over_sends mine theirs) (is_same then) =
+        over_sends mine (send_there more b c g.bodies (names.to place) then theirs)
+    line_on place (over_sends mine theirs) (over_sends also last) = over_sends mine last
+    line_on place (over_sends mine theirs) (over_receives also last) =
+        absurd (one_way b (names.to place) theirs also)
+    line_on place (over_receives mine theirs) (is_same then) =
+        over_receives mine (receive_there more b c g.bodies (names.to place) then theirs)
+    line_on place (over_receives mine theirs) (over_sends also last) =
+        absurd (one_way b (names.to place) also theirs)
+    line_on place (over_receives mine theirs) (over_receives also last) = over_receives mine last
 
 on : (wild : Wild) (a b c : HubView) → AreAlike wild a b → AreAlike wild b c → AreAlike wild a c
 on wild a b c one two =

@@ -15,9 +15,10 @@ use Rattle.mp_match.proofs.Places.{found_first, found_none}
 use Rattle.mp_match.proofs.OrderKept.{free_none}
 use Rattle.mp_alike_laws.specs.Renaming.{Renaming, line_by}
 use Rattle.mp_alike_laws.specs.Alike.{maker}
-use Rattle.mp_source_laws.specs.Alike.{AlikeBoards, Wild}
+use Rattle.mp_source_laws.specs.Alike.{AlikeBoards, IsOver, Wild}
 use Rattle.mp_source_laws.specs.Laws.{AsksFrom}
 use Rattle.mp_source_laws.proofs.Likeness.{origin}
+use Rattle.mp_source_laws.proofs.Over.{free_is_live, same_or_over}
 
 -- the line is a send without a partner, to this rank in this communicator
 record IsFor (line : Line) (what : Selection) : Type 0 where
@@ -78,6 +79,11 @@ May wild (Send s) = Unit {0}
 May wild (Receive a) = AsksFrom wild a.rank a.comm a.source
 May wild (Claim a) = AsksFrom wild a.rank a.comm a.source
 
+-- a post that a new one could have isn't over
+pub live : (c : Board) (p : Post) (i : ℕ) (m : Line) → slice_get c.lines i ≡ Some m → fits p m ≡ true → IsOver c i → ⊥
+live c p i m here f =
+    free_is_live c i m here (free_none m.partner (and_parts (is_free m.partner) (may_pair p m.post) f).0)
+
 module _ {wild : Wild} (names : Renaming) (a b : Board) (alike : AlikeBoards wild names a b) where
   fits_by : (p : Post) (line : Line) → fits p (line_by names line) ≡ fits p line
   fits_by p line = ap (λ x. x && may_pair p line.post) (free_by line.partner)
@@ -103,19 +109,24 @@ module _ {wild : Wild} (names : Renaming) (a b : Board) (alike : AlikeBoards wil
           eqb-true ((g.sent).envelope).source x (sym (ap (λ o. admits o ((g.sent).envelope).source) e) ∙ g.source) in
           alike.ranks i j m n below here there
           (ap (λ (z : Line). maker z.post) f.is ∙ one ∙ sym other ∙ sym (ap (λ (z : Line). maker z.post) g.is))
+          (free_is_live a i m here (ap (λ (z : Line). z.partner) f.is))
+          (free_is_live a j n there (ap (λ (z : Line). z.partner) g.is))
 
   -- two posts that a new one could have keep their order
   keeps : (p : Post) → May wild p → (i j : ℕ) (m n : Line) → i < j → slice_get a.lines i ≡ Some m → slice_get a.lines j ≡ Some n
       → fits p m ≡ true → fits p n ≡ true → names.to i < names.to j
   keeps (Send s) may i j m n below here there f g =
-      alike.ranks i j m n below here there (by_dest m s f ∙ sym (by_dest n s g))
+      alike.ranks i j m n below here there (by_dest m s f ∙ sym (by_dest n s g)) (live a (Send s) i m here f)
+      (live a (Send s) j n there g)
   keeps (Receive c) may i j m n below here there f g =
       for_both i j m n c may below here there (for_receive m c f) (for_receive n c g)
   keeps (Claim c) may i j m n below here there f g =
       for_both i j m n c may below here there (for_claim m c f) (for_claim n c g)
 
-  there_is : (i : ℕ) (m : Line) → slice_get a.lines i ≡ Some m → slice_get b.lines (names.to i) ≡ Some (line_by names m)
-  there_is i m here = alike.lines i ∙ ap (option_map (line_by names)) here
+  there_is : (p : Post) (i : ℕ) (m : Line) → slice_get a.lines i ≡ Some m → fits p m ≡ true
+      → slice_get b.lines (names.to i) ≡ Some (line_by names m)
+  there_is p i m here f =
+      same_or_over names a b i (alike.lines i) (live a p i m here f) ∙ ap (option_map (line_by names)) here
 
   pub found_named : (p : Post) → May wild p → partner_for b.lines p ≡ option_map names.to (partner_for a.lines p)
   found_named p may = go (partner_for a.lines p) refl (partner_for b.lines p) refl
@@ -128,20 +139,20 @@ module _ {wild : Wild} (names : Renaming) (a b : Board) (alike : AlikeBoards wil
       go None e None f = refl
       go None e (Some j) f =
           let t = found_first (fits p) b.lines j f in
-          let o = origin names a b alike j t.0 t.1 in
+          let o = origin names a b alike j t.0 t.1 (live b p j t.0 t.1 t.2) in
           let no = found_none (fits p) 0 a.lines e (names.back j) o.from o.here in
           let yes : fits p o.from ≡ true =
           sym (fits_by p o.from) ∙ sym (ap (fits p) o.is) ∙ t.2 in
           absurd (cc)
       go (Some i) e None f =
           let t = found_first (fits p) a.lines i e in
-          let no = found_none (fits p) 0 b.lines f (names.to i) (line_by names t.0) (there_is i t.0 t.1) in
+          let no = found_none (fits p) 0 b.lines f (names.to i) (line_by names t.0) (there_is p i t.0 t.1 t.2) in
           let yes = fits_there t.0 t.2 in
           absurd (cc)
       go (Some i) e (Some j) f =
           let t = found_first (fits p) a.lines i e in
           let u = found_first (fits p) b.lines j f in
-          let o = origin names a b alike j u.0 u.1 in
+          let o = origin names a b alike j u.0 u.1 (live b p j u.0 u.1 u.2) in
           let yes : fits p o.from ≡ true = sym (fits_by p o.from) ∙ sym (ap (fits p) o.is) ∙ u.2 in
           elim (cases_order i (names.back j)) [
             | inl same ↦ ap (λ z. Some z) (sym (names.again j) ∙ ap names.to (sym same))
@@ -150,7 +161,7 @@ module _ {wild : Wild} (names : Renaming) (a b : Board) (alike : AlikeBoards wil
                   let below : names.to i < j =
                   subst (λ z. names.to i < z) (names.again j)
                   (keeps p may i (names.back j) t.0 o.from first t.1 o.here t.2 yes) in
-                  let no = u.3 (names.to i) (line_by names t.0) below (there_is i t.0 t.1) in
+                  let no = u.3 (names.to i) (line_by names t.0) below (there_is p i t.0 t.1 t.2) in
                   let is = fits_there t.0 t.2 in
                   absurd (cc)
               | inr later ↦

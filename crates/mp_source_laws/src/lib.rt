@@ -1,5 +1,6 @@
-//! Alike hubs, which differ in the numbers of posts, and in the order of messages from different sources where nobody
-//! asks for any source: laws over the hub's meaning, with no code.
+//! Alike hubs, which differ in the numbers of posts, in the order of messages from different sources where nobody asks for
+//! any source, and in messages that were collected: laws over the hub's meaning, with no code.
 #![tactic(auto)]
 
 pub mod laws;
+pub mod worked;

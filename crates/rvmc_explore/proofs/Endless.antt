@@ -33,7 +33,7 @@ use Rattle.cl_explore.specs.Below.{Contest}
 use Rattle.cl_explore.specs.Below.{IsContestGraph}
 use Rattle.cl_explore.proofs.Below.{contest_law}
 use Rattle.cl_explore.proofs.Below.{never_ends_law}
-use Rattle.cl_explore.specs.How.{HasRoom, How, IsFitFor, MayBegin, at_once, by_contest, plainly}
+use Rattle.cl_explore.specs.How.{AreAlikeFor, HasRoom, How, IsFitFor, MayBegin, at_once, by_contest, plainly}
 use Rattle.cl_explore.specs.Covering.{AreJoined, HasLead, IsClosedAt, IsClosedFrom, Reaches}
 use Rattle.cl_explore.specs.Ends.{ExploredFrom, Findings, IsVisitedNode}
 use Rattle.cl_explore.specs.declared.leads.Lead.{Lead}
@@ -88,6 +88,11 @@ as_reaches : (sure : Bool) (order : List ℕ) (nodes : List Node) (here : Node) 
 as_reaches true order nodes here reaches = reaches
 as_reaches false order nodes here reaches = reaches
 
+as_nodes : (sure : Bool) (order : List ℕ) (one other : Node) → AreAlikeFor (how_by sure) order one other
+    → AreAlikeNodes (by_order order) one other
+as_nodes true order one other alike = alike
+as_nodes false order one other alike = alike
+
 as_room : (sure : Bool) (cluster : Cluster) → HasRoom (how_by sure) (hub_of cluster.journal)
     → HasRoomIn sure most_posts cluster
 as_room true cluster room = room
@@ -110,7 +115,7 @@ record Whole (how : How) (image : ImageParts) (order : List ℕ) (start : Node) 
   fit : (i : ℕ) (node : Node) → slice_get nodes i ≡ Some node → IsFitFor how node.cluster
   joined : (i j : ℕ) (from to : Node) → IsTrue (edges_of leads i j) → slice_get nodes i ≡ Some from
       → slice_get nodes j ≡ Some to
-      → (there : Node) × IsAfter (by_order order) from there × AreAlikeNodes (by_order order) there to
+      → (there : Node) × IsAfter (by_order order) from there × AreAlikeFor how order there to
   reached : (i : ℕ) (node : Node) → slice_get nodes i ≡ Some node
       → (steps : List Step) × IsWay (by_order order) (first_node image) steps node
 
@@ -136,7 +141,8 @@ module _ (image : ImageParts) (order : List ℕ) (start : Node) (nodes : List No
           })
     ];
     room = λ i node at. as_room sure node.cluster (whole.few i node at);
-    leads = whole.joined;
+    leads = λ i j from to edge here there.
+        let l = whole.joined i j from to edge here there in (l.0, l.1, as_nodes sure order l.0 to l.2);
     itself = λ i node at.
         let way = whole.reached i node at in (no_renaming, itself node.cluster (image, way.0, (way.1).run));
   }
@@ -163,6 +169,11 @@ module _ (image : ImageParts) (order : List ℕ) (start : Node) (nodes : List No
 
   -- ---- what follows of it
 
+  -- the search begins at the loaded cluster
+  from_start : (contest : Contest) → Whole (by_contest contest) image order start nodes leads → (node : Node)
+      (steps : List Step) → IsWay plans (first_node image) steps node → IsWay plans start steps node
+  from_start contest whole node steps way = subst (λ (n : Node). IsWay plans n steps node) (sym (whole.begins).0) way
+
   never_by : (how : How) → Whole how image order start nodes leads → (inside : ℕ → Bool) → IsTrap plans nodes them inside
       → (i : ℕ) (node : Node) → IsTrue (inside i) → slice_get nodes i ≡ Some node → NeverEnds plans node
   never_by at_once whole inside trap =
@@ -171,7 +182,7 @@ module _ (image : ImageParts) (order : List ℕ) (start : Node) (nodes : List No
       unending_law.never false plans most_posts nodes them inside (graph_by false whole) trap
   never_by (by_contest contest) whole inside trap = λ i node is at.
       let way = whole.reached i node at in
-      let first = subst (λ (n : Node). IsWay plans n way.0 node) (sym (whole.begins).0) way.1 in
+      let first = from_start contest whole node way.0 way.1 in
       never_ends_law.never contest plans nodes them inside start (whole.begins).1 whole.start_is
       (contest_graph contest whole) trap i node is at way.0 first.run first.follow
 
@@ -179,7 +190,11 @@ module _ (image : ImageParts) (order : List ℕ) (start : Node) (nodes : List No
       → slice_get nodes i ≡ Some from → slice_get nodes j ≡ Some to → MayEnd plans to → MayEnd plans from
   path_by at_once whole = unending_law.path true plans most_posts nodes them (graph_by true whole)
   path_by plainly whole = unending_law.path false plans most_posts nodes them (graph_by false whole)
-  path_by (by_contest contest) whole = never_ends_law.path contest plans nodes them (contest_graph contest whole)
+  path_by (by_contest contest) whole = λ i j from to edge here there.
+      let way = whole.reached i from here in
+      let first = from_start contest whole from way.0 way.1 in
+      never_ends_law.path contest plans nodes them start (whole.begins).1 whole.start_is (contest_graph contest whole) i j from to
+      edge here there way.0 first.run first.follow
 
   may_by : (how : How) → Whole how image order start nodes leads → HaveHarts plans start.cluster
       → ((i : ℕ) (node : Node) → slice_get nodes i ≡ Some node → MayEnd plans node) → AllMayEnd order start
@@ -249,7 +264,8 @@ module _ (image : ImageParts) (order : List ℕ) (start : Node) (found : Finding
         same_Some v.0 from (sym v.2 ∙ (ap (slice_get nodes) led.3 ∙ here)) in
         let second : v.1 ≡ to =
         same_Some v.1 to (sym v.3 ∙ (ap (slice_get nodes) led.4 ∙ there)) in
-        let joined = subst (λ n. AreJoined order n to) first (subst (λ n. AreJoined order v.0 n) second v.4) in
+        let joined = subst (λ n. AreJoined explored.how order n to) first
+        (subst (λ n. AreJoined explored.how order v.0 n) second v.4) in
         (joined.there, after_way from joined.there joined.steps joined.way, joined.alike);
     reached = reached;
   }

@@ -1,9 +1,6 @@
-use Rattle.cl_moves.proofs.Asking.{if_ok_on}
-use Rattle.cl_explore.proofs.Finds.{if_some_on}
 use Rattle.cl_explore.proofs.exploring.search_nodes.Goals as goal
 
-pub returns-clause-ends : goal.returns-clause-ends
-returns-clause-ends c =
-    if_ok_on c.visit_each.result
-    (λ o some. if_some_on o (λ told tells. tells c.args.standing.now c.requires.room c.in_ok-long.ensures.begins) some)
-    c.visit_each.ensures.ends
+pub returns-in_ok-follow_if_cut-in-Some-clause-ends : goal.returns-in_ok-follow_if_cut-in-Some-clause-ends
+returns-in_ok-follow_if_cut-in-Some-clause-ends c =
+    c.in_ok-follow_if_cut-in-Some.ensures.ends c.args.standing.now
+    ((rw c.in-Some.is at c.in_ok-visit_each.ensures.ends) c.args.standing.now c.requires.room c.in_ok-long.ensures.begins)

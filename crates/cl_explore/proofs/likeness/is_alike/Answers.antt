@@ -1,20 +1,22 @@
-use Rattle.std.proofs.Common.{IfSome, map, subst, sym, ◌∙◌}
-use Rattle.mp_alike.specs.Names.{AreAlikeBy}
+use Rattle.std.proofs.Common.{IfSome, List, map, subst, sym, ◌∙◌}
 use Rattle.cl_order_laws.specs.Alike.{AlikeRanks, AreEach}
 use Rattle.cl_state.specs.Room.{rank_of}
-use Rattle.cl_explore.specs.Likeness.{AreAlikeLinks, HaveSameSites}
+use Rattle.cl_contests.specs.declared.patterns.AskedBy.{AskedBy}
+use Rattle.cl_explore.specs.How.{how_of}
+use Rattle.cl_explore.specs.Likeness.{AreAlikeLinks, AreNamedIn, HaveSameSites}
 use Rattle.cl_explore.proofs.Alike.{standing_alike}
 use Rattle.cl_explore.proofs.likeness.is_alike.Goals as goal
 use Rattle.cl_explore.proofs.likeness.is_alike.Goals.{then-are_alike_boxes, else-are_alike_boxes}
 
 pub returns : goal.returns
-returns c = λ its. elim c.if-are_alike_boxes.branch [
+returns c = λ its asked. elim c.if-are_alike_boxes.branch [
   | then-are_alike_boxes w ↦
       let names = c.in-Some.names in
       let kept = c.args.kept.now in
       let standing = c.args.standing.now in
-      standing_alike standing kept names
-      (subst (λ o. IfSome o (λ found. AreAlikeBy found standing.whole kept.whole)) c.in-Some.is c.in_ok-names.ensures.some)
+      standing_alike (how_of c.args.way asked) standing kept names
+      (subst (λ o. IfSome o (λ found. (patterns : List AskedBy)
+      → AreNamedIn (how_of c.args.way patterns) found standing.whole kept.whole)) c.in-Some.is c.in_ok-names.ensures asked)
       (subst (λ boxes. AreAlikeLinks boxes kept.cluster.boxes) c.as_slice-boxes.ensures.value
       (subst (λ boxes. AreAlikeLinks c.as_slice-boxes.result.now boxes) c.boxes.ensures
       (c.are_alike_boxes.ensures w.if-are_alike_boxes.true)))

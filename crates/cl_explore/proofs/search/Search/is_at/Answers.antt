@@ -12,4 +12,10 @@ returns c =
     c.index-kept.ensures in
     let places = subst (λ other. AreSamePlaces c.args.course.now.order.now c.args.standing.now other)
     c.as_slice.ensures.value (c.are_same_places.ensures c.if-not-are_same_places.false) in
-    if_ok_on c.is_alike.result (λ at alike its. (kept, here, alike its c.args.course.now.order.now, places)) c.is_alike.ensures
+    if_ok_on c.is_alike.result
+    (λ at alike its. (
+      kept,
+      here,
+      alike its c.args.course.now.patterns.now.kept.items c.args.course.now.order.now,
+      places,
+    )) c.is_alike.ensures

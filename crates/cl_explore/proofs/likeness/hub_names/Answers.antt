@@ -1,0 +1,17 @@
+use Rattle.std.proofs.Common.{IfOk, IfSome, List, subst, sym}
+use Rattle.cl_moves.proofs.Asking.{if_ok_on}
+use Rattle.cl_contests.specs.declared.patterns.AskedBy.{AskedBy}
+use Rattle.cl_explore.specs.Likeness.{AreNamedIn}
+use Rattle.cl_explore.specs.How.{how_of}
+use Rattle.cl_explore.proofs.Alike.{if_live_named, if_named}
+use Rattle.cl_explore.proofs.likeness.hub_names.Goals as goal
+
+pub returns-in-Plainly : goal.returns-in-Plainly
+returns-in-Plainly c =
+    if_ok_on c.alike_names.result (if_named (how_of c.args.way) c.args.mine.now c.args.theirs.now) c.alike_names.ensures.some
+
+pub returns-in-First : goal.returns-in-First
+returns-in-First c =
+    subst (λ way. IfOk c.live_names.result (λ found. IfSome found (λ names. (asked : List AskedBy)
+    → AreNamedIn (how_of way asked) names c.args.mine.now c.args.theirs.now))) (sym c.in-First.is)
+    (if_ok_on c.live_names.result (if_live_named c.args.mine.now c.args.theirs.now) c.live_names.ensures)

@@ -1,0 +1,7 @@
+use Rattle.std.proofs.Common.{ℕ, ◌<◌, ◌≡◌}
+use Rattle.mp_alike.specs.Names.{renamed}
+use Rattle.mp_alike.specs.InnerLive.{origin}
+use Rattle.mp_alike.proofs.live.go_again.Given as goal
+
+abbrev pub invariant-loop-place : goal.invariant-loop-place
+invariant-loop-place l = (k : ℕ) → k < l.place → renamed l.to (origin l.back k) ≡ k
