@@ -2,7 +2,7 @@
 hangs on whose message it got."""
 
 import races
-from races import INCOMING, IPROBE, OUTGOING, PROBE, RECV, SEND, STATUSES, TEST
+from races import INCOMING, IPROBE, IRECV, LISTS, OUTGOING, PROBE, RECV, SEND, STATUSES, TEST, TESTALL, WAITALL
 
 
 # the calls that claim, and those that go on where nothing is there
@@ -11,13 +11,15 @@ CLAIMS, POLLS = (26, 27, 28, 29), (22, 24, 26, 34)
 
 class Contests(races.Races):
     """Guests that a draw makes. Most have no claim, link or second hart, with which nothing goes first, and no poll, which
-    contests all that others send and receive."""
+    contests all that others send and receive. In some, messages leave no trace: they come to a buffer that is cleared, and no
+    status is kept. So states differ in nothing but posts, whoever made those that are over."""
 
     def __init__(self, draw):
         super().__init__(draw)
         self.left_out = set()
         # the rank that never ends, or None; and the one to which most messages go
         self.spinning, self.to = None, 0
+        self.is_traceless = False
 
     def such(self, make):
         """What is drawn, without the calls that the guest hasn't."""
@@ -33,7 +35,41 @@ class Contests(races.Races):
 
     def receives(self, message):
         """A receive of a message."""
-        return self.such(lambda: super(Contests, self).receives(message))
+        pieces = self.such(lambda: super(Contests, self).receives(message))
+        return [*pieces[:-1], pieces[-1] + self.cleared(1)] if self.is_traceless else pieces
+
+    @staticmethod
+    def cleared(count):
+        """The lines that clear so many buffers, so that nothing is left of what came."""
+        return [f"sd x0, {INCOMING + 8 * place}(s0)" for place in range(count)]
+
+    def receives_together(self, messages):
+        """Receives that are posted one after another, and completed together. What came may be left."""
+        pieces = []
+        for place, message in enumerate(messages):
+            lines, handle = self.kept(self.call(IRECV, (INCOMING + 8 * place,), 8, *self.selected(message)))
+            pieces.append([*lines, f"sd {handle}, {LISTS + 8 * place}(s0)"])
+        many = (LISTS,), len(messages), 0
+        pieces += self.such(
+            lambda: self.draw.one(
+                (lambda: [self.call(WAITALL, *many)], 2),
+                (lambda: [self.call(TESTALL, *many), self.call(WAITALL, *many)], 1),
+                (lambda: [self.again(TESTALL, *many)], 1),
+            )
+        )
+        return [*pieces, self.cleared(len(messages))] if self.chance(1, 2) else pieces
+
+    def incoming(self):
+        """A buffer for what comes in, and its capacity."""
+        return ((INCOMING,), 8) if self.is_traceless else super().incoming()
+
+    def outgoing(self):
+        """A buffer of what goes out, and its count: perhaps what came in goes on."""
+        return ((INCOMING,), 8) if self.is_traceless and self.chance(1, 4) else super().outgoing()
+
+    def status(self):
+        """Where a status goes."""
+        return 0 if self.is_traceless else super().status()
 
     def looks(self, rank):
         """A call that looks what is there, or is wrong."""
@@ -77,7 +113,10 @@ class Contests(races.Races):
 
     def things_in_cases(self, rank, messages, links):
         """What a rank does: its part in each message, and more in some cases."""
-        things = self.things(rank, 0, messages, links, False)
+        together = [message for message in messages if message[1] == rank][:3] if self.is_traceless else []
+        together = together if len(together) > 1 and self.chance(1, 2) else []
+        things = self.things(rank, 0, [message for message in messages if message not in together], links, False)
+        things += [self.receives_together(together)] if together else []
         for pieces in things:
             if self.chance(1, 4):
                 pieces.insert(1 + self.below(len(pieces)), self.case(rank))
@@ -110,13 +149,14 @@ class Contests(races.Races):
         self.left_out, everybody = {f"li a7, {number}" for number in none}, list(range(self.ranks))
         self.comms = [everybody] + [self.random.sample(everybody, 2) for _ in range(self.random.choice([0, 0, 1]))]
         self.spinning, self.to = self.below(self.ranks) if self.chance(1, 8) else None, self.below(self.ranks)
-        messages = []
-        for _ in range(self.random.choice([1, 1, 2, 2, 2, 3])):
+        self.is_traceless = self.chance(1, 3)
+        messages, most = [], 6 if self.is_traceless else 4
+        for _ in range(self.random.choice([1, 1, 2, 2, 2, 3]) + (most - 4)):
             one = self.message()
             messages += self.alike(one) if self.chance(1, 2) else [one]
         links = [self.random.sample(everybody, 2)] if self.chance(1, 30) else []
-        self.tells, self.shape = self.chance(2, 3), self.random.choice(races.SHAPES)
+        self.tells, self.shape = not self.is_traceless and self.chance(2, 3), self.random.choice(races.SHAPES)
         # all of what came in and of the statuses is shown
         shown = OUTGOING - INCOMING
-        image = self.image(links, shown, lambda rank, hart: self.things_in_cases(rank, messages[:4], links))
+        image = self.image(links, shown, lambda rank, hart: self.things_in_cases(rank, messages[:most], links))
         return image, self.random.choice([None, [0]]) if self.harts == 2 else None

@@ -26,6 +26,10 @@ Next = collections.namedtuple("Next", "name arguments waits")
 # the manners of a search, of which each leaves out more: its words, by `Schedules`
 MANNERS = [{}, {"by_source": True}, {"alone": True}, {"alone": True, "by_source": True, "forgets": True}]
 
+# the manner in which states are one as `explore` has it
+COUNTED = {"alone": True, "by_source": True, "collected": True}
+MANNERS.append(COUNTED)
+
 # a send, by how, to whom and where
 Send = collections.namedtuple("Send", "sync dest comm")
 
@@ -122,11 +126,14 @@ def left(hub):
 class Schedules:
     """The states that a search keeps, at which it lets every rank go. `alone`: a rank's send or receive goes first, too, where no
     other rank can go on. `by_source`: states are one though messages of different senders came in another order, where
-    nobody asks for any source. `forgets`: states are one where they differ only in posts that nobody can ask for any more."""
+    nobody asks for any source. `collected`: states are one where they differ only in standard sends and receives whose message
+    was collected, and as many posts were made. `forgets`: where they differ only in posts that nobody can ask for any more."""
 
-    def __init__(self, image, plan, most, alone=False, by_source=False, forgets=False, longest=orders.LONGEST):
+    def __init__(
+        self, image, plan, most, alone=False, by_source=False, collected=False, forgets=False, longest=orders.LONGEST
+    ):
         self.image, self.plan, self.most, self.longest = image, plan, most, longest
-        self.alone, self.by_source, self.forgets = alone, by_source, forgets
+        self.alone, self.by_source, self.collected, self.forgets = alone, by_source, collected, forgets
         # the patterns of each rank, and where a rank asks for any source, as (rank, communicator)
         self.patterns, self.wild = [set() for _ in range(image.ranks)], set()
         self.numbers, self.passes = {}, {}
@@ -279,12 +286,12 @@ class Schedules:
 
     def is_kept(self, state, number, post):
         """Whether a post counts: its message waits, or it waits for one, or its rank may ask for it."""
-        if not self.forgets or post.partner is None:
+        if not was_collected(post) or not (self.collected or self.forgets):
             return True
-        receive = post if post.kind == "receive" else post.partner
+        if self.collected:
+            return post.kind == "send" and post.sync
         rank = state.ranks[post.rank]
-        named = {hart.why for hart in rank.harts if hart.mode == WAITING} | {it.post for it in rank.requests.values()}
-        return not receive.collected or number in named
+        return number in {hart.why for hart in rank.harts if hart.mode == WAITING} | {it.post for it in rank.requests.values()}
 
     def key(self, state):
         """A number by which alike states are known."""
@@ -299,12 +306,13 @@ class Schedules:
         posts, waiting = {}, {}
         for post in state.hub.posts:
             if places[id(post)]:
-                posts.setdefault(post.rank, []).append(orders.key_of_post(post, lambda other: places[id(other)]))
+                posts.setdefault(post.rank, []).append(key_of_post(post, lambda other: places[id(other)]))
             to = post.kind == "send" and not post.partner and (post.dest, post.envelope[0])
             if to and (to in self.wild or not self.by_source):
                 waiting.setdefault(to, []).append(places[id(post)])
         ranks = [self.key_of_rank(rank, lambda number: number and names[number - 1]) for rank in state.ranks]
-        return self.number(repr((ranks, sorted(posts.items()), sorted(waiting.items()))))
+        many = len(state.hub.posts) if self.collected else None
+        return self.number(repr((ranks, sorted(posts.items()), sorted(waiting.items()), many)))
 
     def key_of_rank(self, rank, name):
         """A rank's key, in which a hart that makes its call anew is one that makes it for the first time."""
@@ -346,9 +354,10 @@ class Schedules:
         """Searches by the patterns that are known."""
         self.texts, self.known, self.left, self.companies = set(), set(), set(), set()
         first = self.first()
-        before, states, stops, todo = {first.key: []}, {first.key: first}, [], [first]
+        before, states, stops, todo = {first.key: []}, {first.key: first}, [], collections.deque([first])
         while todo:
-            state = todo.pop()
+            # the state that was found first, as in the program: which patterns come up hangs on it
+            state = todo.popleft()
             if state.is_end():
                 self.found(state)
                 stops.append(state.key)
@@ -377,6 +386,17 @@ class Schedules:
         self.texts.add(orders.text_of(state.ranks, self.plan))
         self.known.add(known)
         self.left.add((known, left(state.hub)))
+
+
+def was_collected(post):
+    """Whether the message of a send or a receive was collected."""
+    receive = post if post.kind == "receive" else post.partner
+    return receive is not None and receive.collected
+
+
+def key_of_post(post, name):
+    """A post's key, without a message that was collected."""
+    return orders.key_of_post(orders.copied(post, text=None) if was_collected(post) else post, name)
 
 
 def of_hart(rank, hart):
@@ -423,6 +443,14 @@ def difference_from_told(some, told):
         ("ranks that are stuck", some.companies, orders.largest(told.companies, some.companies)),
         ("runs without an end", some.is_unending, told.is_unending),
     )
+
+
+def difference_in_states(image, plan, most, longest, told):
+    """How `explore` told of fewer states than those that docs/EXPLORE.md lets differ, or None. It may tell of more: it finds
+    other patterns on its way, and a rank that goes round alone has states of its own."""
+    some = Schedules(image, plan, most, longest=longest, **COUNTED)
+    is_searched = some.search() and some.is_whole and told.is_whole
+    return f"{told.count} states, not {some.count}" if is_searched and told.count < some.count else None
 
 
 def first_difference(*rows):
