@@ -13,7 +13,7 @@ use Rattle.cl_text_laws.proofs.Runs.{runs_fit}
 use Rattle.rvmc_explore.specs.Recorded.{Leads, RecordsEnd}
 use Rattle.rvmc_explore.specs.Starting.{RecordsEndBehind}
 use Rattle.rvmc_starts.specs.declared.starts.Start.{Start}
-use Rattle.rvmc_tool.specs.Plans.{ArePlansOf, IsPlanOf}
+use Rattle.rvmc_answers.specs.Plans.{ArePlansOf, IsPlanOf}
 
 fit_by : (image : ImageParts) (order : List ℕ) (nodes : List Node) (steps : List Step) (found : Option ℕ) → IsImage image
     → Leads image order nodes found (Some steps) → All (FitsStep image) steps

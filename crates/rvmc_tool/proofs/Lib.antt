@@ -1,11 +1,2 @@
 pub mod Fitting
-pub mod Left
-pub mod Lists
-pub mod Pages
-pub mod Places
-pub mod Reading
-pub mod Readings
-pub mod Sources
-pub mod Stable
-pub mod Quiet
 pub mod Told

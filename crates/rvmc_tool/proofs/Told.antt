@@ -17,16 +17,18 @@ use Rattle.rvmc_report.specs.declared.faults.ExploreRefusal.TheVariants as refus
 use Rattle.rvmc_report.specs.declared.faults.Fault.{Fault}
 use Rattle.rvmc_report.specs.declared.faults.Fault.TheVariants as faults
 use Rattle.rvmc_tool.specs.Answers.{HasThreads, Makes, Says}
-use Rattle.rvmc_tool.specs.Ends.{IsFaulty, end_status}
+use Rattle.rvmc_answers.specs.Ends.{IsFaulty, end_status}
 use Rattle.rvmc_tool.specs.Exploring.{IsToldOfSearch}
-use Rattle.rvmc_tool.specs.Images.{image_in}
-use Rattle.rvmc_tool.specs.Making.{IsFaultOf, IsMisplanned, IsReadFault, IsUnexplored, RefusesImage}
-use Rattle.rvmc_tool.specs.Outputs.{output_bytes}
-use Rattle.rvmc_tool.specs.Plans.{listed}
-use Rattle.rvmc_tool.specs.Records.{SaysOfSteps, is_in_pieces, part_behind, record_part}
-use Rattle.rvmc_tool.specs.Taking.{IsFaultIn}
-use Rattle.rvmc_tool.specs.declared.answers.Answer.{Answer}
-use Rattle.rvmc_tool.specs.Made.{LeavesPieces, TellsPieces}
+use Rattle.rvmc_answers.specs.Images.{image_in}
+use Rattle.rvmc_tool.specs.Making.{IsFaultOf, IsMisplanned, IsUnexplored, RefusesImage}
+use Rattle.rvmc_views.specs.Faults.{IsReadFault}
+use Rattle.rvmc_answers.specs.Outputs.{output_bytes}
+use Rattle.rvmc_answers.specs.Plans.{listed}
+use Rattle.rvmc_views.specs.Records.{SaysOfSteps, is_in_pieces, part_behind, record_part}
+use Rattle.rvmc_answers.specs.Taking.{IsFaultIn}
+use Rattle.rvmc_answers.specs.declared.answers.Answer.{Answer}
+use Rattle.rvmc_views.specs.Pieces.{LeavesPieces}
+use Rattle.rvmc_tool.specs.Made.{TellsPieces}
 use Rattle.rvmc_tool.specs.Tool.{Answers, IsCutShort, IsRefused, IsSaid, IsUnlike}
 use Rattle.rvmc_tool.specs.Plain.{IsWhole, Tells}
 

@@ -6,7 +6,7 @@ use Rattle.cl_text.specs.Text.{record_text}
 use Rattle.cl_text.specs.Whole.{IsRecord}
 use Rattle.rvmc_explore.specs.Recorded.{RecordsEnd}
 use Rattle.rvmc_explore.specs.Telling.{Tells}
-use Rattle.rvmc_tool.specs.Ends.{IsFaulty}
+use Rattle.rvmc_answers.specs.Ends.{IsFaulty}
 
 -- the text of the record of the outcome of this number in the list of what is told: of a run by the order to a cluster where
 -- nobody goes on, or some ranks are stuck

@@ -2,10 +2,10 @@
 use Rattle.std.specs.Prelude.{◌≡◌, ℕ, ◌≤◌, ◌⊎◌, if◌then◌else◌, true, List, length, IfSome, Option, None, Some}
 use Rattle.std.specs.Prelude.{option_and_then, Result, Ok, Err}
 use Rattle.std.specs.Io.KnownBytes.{Appends, Keeps}
-use Rattle.rvmc_tool.specs.Ends.{end_status}
+use Rattle.rvmc_answers.specs.Ends.{end_status}
 use Rattle.rvmc_tool.specs.Making.{needs_threads}
-use Rattle.rvmc_tool.specs.Outputs.{output_bytes}
-use Rattle.rvmc_tool.specs.declared.answers.Answer.{Answer}
+use Rattle.rvmc_answers.specs.Outputs.{output_bytes}
+use Rattle.rvmc_answers.specs.declared.answers.Answer.{Answer}
 use Rattle.rvmc_cli.specs.Meaning.{meaning_of}
 use Rattle.rvmc_line.specs.declared.line.CommandLine.{CommandLine}
 use Rattle.rvmc_report.specs.Faults.{fault_status}

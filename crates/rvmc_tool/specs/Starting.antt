@@ -18,7 +18,7 @@ use Rattle.rvmc_starts.specs.Joining.{IsJoined, NoText, OtherText}
 use Rattle.rvmc_starts.specs.Sums.{sum_of}
 use Rattle.rvmc_starts.specs.declared.joining.Joined.{Joined}
 use Rattle.rvmc_starts.specs.declared.starts.Start.{Start}
-use Rattle.rvmc_tool.specs.Ends.{IsFaulty}
+use Rattle.rvmc_answers.specs.Ends.{IsFaulty}
 
 -- ---- the starts of a split
 

@@ -1,18 +1,18 @@
 -- What the program leaves on standard output, and its status.
-use Rattle.std.specs.Prelude.{◌≡◌, ℕ, ◌≤◌, ◌⊎◌, ◌==◌, ◌||◌, Bool, true, false, List, [], length, MatchResult, Option, Err}
-use Rattle.std.specs.Prelude.{string_bytes}
+use Rattle.std.specs.Prelude.{◌≡◌, ℕ, ◌≤◌, ◌⊎◌, true, false, List, [], length, MatchResult, Option, Err, string_bytes}
 use Rattle.std.specs.Io.{StartsWith}
 use Rattle.std.specs.Io.KnownBytes.{Appends, Keeps}
 use Rattle.rvmc_tool.specs.Answers.{HasThreads, Says}
-use Rattle.rvmc_tool.specs.Ends.{IsFaulty}
-use Rattle.rvmc_tool.specs.Images.{image_in}
-use Rattle.rvmc_tool.specs.Records.{is_in_pieces}
+use Rattle.rvmc_answers.specs.Ends.{IsFaulty}
+use Rattle.rvmc_answers.specs.Images.{image_in}
+use Rattle.rvmc_views.specs.Records.{is_in_pieces}
 use Rattle.rvmc_tool.specs.Sessions.{is_session}
 use Rattle.rvmc_cli.specs.Meaning.{Parses}
 use Rattle.rvmc_line.specs.declared.line.CommandLine.{CommandLine}
 use Rattle.rvmc_line.specs.declared.line.CommandLine.TheVariants.{Join, OfImage, OfRecord, Session, WordSession}
 use Rattle.rvmc_line.specs.declared.line.ParseFault.{ParseFault}
 use Rattle.rvmc_line.specs.declared.line.ParseFault.TheVariants as parse
+pub use Rattle.rvmc_advice.specs.Quiet.{is_quiet}
 
 -- memory or a thread was refused before there was a text
 abbrev pub IsRefused : List ℕ → ℕ → Type 0
@@ -55,8 +55,3 @@ ShowsFault (parse.Refused text) status old new = (status ≡ 2) × Keeps old new
 -- words that mean no command line, where every write succeeded
 abbrev pub RefusesWords : List (List ℕ) → ℕ → Option (List ℕ) → Option (List ℕ) → Type 0
 RefusesWords words status old new = (fault : ParseFault) × Parses words (Err fault) × ShowsFault fault status old new
-
--- the statuses of which standard error has no line: all is done, a hart trapped, a rank or a search was cut short, or some
--- order leads to a deadlock
-abbrev pub is_quiet : ℕ → Bool
-is_quiet status = status == 0 || (status == 3 || (status == 4 || status == 7))

@@ -5,66 +5,25 @@ ghost use Rattle.rv_image.specs.Text.{image_text};
 ghost use Rattle.rvmc_line.specs.declared.line.ImageCommand.TheVariants as asked;
 ghost use Rattle.rvmc_report.specs.Listing.{listing};
 ghost use Rattle.rvmc_tool.specs.Answers.{Makes, Says, SaysOfImage};
-ghost use Rattle.rvmc_tool.specs.Ends.{IsDone, end_status};
-ghost use Rattle.rvmc_tool.specs.Making.{EndsSo, IsFaultOf, IsImageFault, IsWhole, RefusesImage};
-ghost use Rattle.rvmc_tool.specs.Making.{needs_threads, runs_threads};
+ghost use Rattle.rvmc_answers.specs.Ends.{IsDone, end_status};
+ghost use Rattle.rvmc_tool.specs.Making.{EndsSo, IsFaultOf, IsImageFault, needs_threads, RefusesImage, runs_threads};
+ghost use Rattle.rvmc_answers.specs.Making.{IsWhole};
 ghost use Rattle.rvmc_tool.specs.Made.{is_written_as_made};
-ghost use Rattle.rvmc_tool.specs.Outputs.{output_bytes};
-ghost use Rattle.rvmc_tool.specs.declared.answers.End.TheVariants.{Status};
+ghost use Rattle.rvmc_answers.specs.Outputs.{output_bytes};
 
 use crate::exploring::explore;
-use crate::images::image_in;
-use crate::outputs::Output;
-use crate::records::answer_of_record;
-use crate::runs::{one, run};
 use crate::starting::{explore_from, join, split};
 use rv_image::write_image;
 use rv_image_types::Image;
+use rvmc_answers::{Answer, End, Output, image_in};
 use rvmc_line::{CommandLine, ImageCommand};
 use rvmc_report::faults::Fault;
 use rvmc_report::listing::listing;
+use rvmc_runs::{one, run};
+use rvmc_views::answer_of_record;
 use std::alloc::{AllocError, Global};
 use std::sync::Wait;
 use std::thread::Threads;
-
-/// How an answer ends: with a status, or cut short by a fault, whose line then stands on standard error and whose
-/// status is the answer's.
-#[derive(Clone, Copy, Drop)]
-pub enum End {
-    Status(u8),
-    Cut(Fault),
-}
-
-impl End {
-    /// The status that the program ends with.
-    pub fn status(self) -> u8
-        ensures { result ≡ end_status self }
-    {
-        match self {
-            End::Status(status) => status,
-            End::Cut(fault) => fault.status(),
-        }
-    }
-}
-
-/// What stands on standard output, and how it ends. What is told of a record may be cut short.
-#[derive(Drop)]
-pub struct Answer {
-    pub output: Output,
-    pub end: End,
-}
-
-impl Answer {
-    /// All is done, and this is the text.
-    pub(crate) fn done(text: Vec<u8>) -> Answer
-        ensures text { output_bytes result.output ≡ text.items }
-        ensures end { result.end ≡ Status 0 }
-    {
-        let output = Output::Text(text);
-        let end = End::Status(0);
-        Answer { output, end }
-    }
-}
 
 /// The bytes of an image.
 fn written(alloc: Global, image: &Image) -> Result<Answer, AllocError>

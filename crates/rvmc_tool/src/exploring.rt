@@ -4,20 +4,19 @@ ghost use Rattle.std.specs.Prelude.{◌≡◌, ◌<◌, IfErr, IfOk, Some, lengt
 ghost use Rattle.cl_record.specs.Plans.{HasPlans};
 ghost use Rattle.rvmc_explore.specs.Telling.{Tells};
 ghost use Rattle.rv_image_types.specs.Image.{IsImage};
-ghost use Rattle.rvmc_tool.specs.Answers.{ByPlans, IsExplored};
-ghost use Rattle.rvmc_tool.specs.Ends.{end_status};
+ghost use Rattle.rvmc_answers.specs.Plans.{ByPlans, listed};
+ghost use Rattle.rvmc_tool.specs.Answers.{IsExplored};
+ghost use Rattle.rvmc_answers.specs.Ends.{end_status};
 ghost use Rattle.rvmc_tool.specs.Exploring.{IsEndRecord, IsToldOfSearch};
 ghost use Rattle.rvmc_tool.specs.Unexplored.{IsNoEnd};
-ghost use Rattle.rvmc_tool.specs.Making.{IsMakingFault, IsRunFault, IsWhole};
-ghost use Rattle.rvmc_tool.specs.Outputs.{output_bytes};
-ghost use Rattle.rvmc_tool.specs.Plans.{listed};
+ghost use Rattle.rvmc_answers.specs.Making.{IsMakingFault, IsRunFault, IsWhole};
+ghost use Rattle.rvmc_answers.specs.Outputs.{output_bytes};
 
-use crate::answers::{Answer, End};
-use crate::outputs::Output;
-use crate::plans::{listed, plans_of};
 use cl_record::has_plans;
 use cl_text::RecordText;
 use rv_image_types::Image;
+use rvmc_answers::plans::{listed, plans_of};
+use rvmc_answers::{Answer, End, Output};
 use rvmc_explore::{Asked, Told, explored, recorded};
 use rvmc_report::faults::{ExploreRefusal, Fault};
 use rvmc_words::Numbers;

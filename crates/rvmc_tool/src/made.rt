@@ -1,19 +1,26 @@
 //! Texts that are written on standard output as they are made.
 
-ghost use Rattle.std.specs.Prelude.{◌≡◌, ◌≢◌, IfErr, IfOk, Option, List, true, ℕ};
+ghost use Rattle.std.specs.Prelude.{◌≡◌, ◌≢◌, IfErr, IfOk, Option, List, Some, true, ℕ};
 ghost use Rattle.cl_text.specs.Reading.{reading_record};
 ghost use Rattle.rvmc_hints.specs.HintLines.{AppendsHint};
+ghost use Rattle.rvmc_line.specs.declared.line.CommandLine.TheVariants.{OfRecord};
 ghost use Rattle.rvmc_line.specs.declared.line.RecordCommand.{RecordCommand};
-ghost use Rattle.rvmc_tool.specs.Made.{IsMade, LeavesPieces, TellsPieces};
-ghost use Rattle.rvmc_tool.specs.Making.{IsReadFault};
-ghost use Rattle.rvmc_tool.specs.Records.{record_part};
-ghost use Rattle.rvmc_tool.specs.Tool.{is_quiet};
+ghost use Rattle.rvmc_line.specs.declared.line.RecordCommand.TheVariants as command;
+ghost use Rattle.rvmc_report.specs.Input.{TakesAtMost};
+ghost use Rattle.rvmc_views.specs.Pieces.{IsMade, LeavesPieces, list_of};
+ghost use Rattle.rvmc_tool.specs.Made.{TellsPieces};
+ghost use Rattle.rvmc_tool.specs.Tool.{Answers};
+ghost use Rattle.rvmc_views.specs.Faults.{IsReadFault};
+ghost use Rattle.rvmc_views.specs.Records.{record_part};
+ghost use Rattle.rvmc_advice.specs.Quiet.{is_quiet};
 
-use crate::program::{fail, fail_with_hint};
-use rvmc_line::CommandLine;
+use crate::program::take;
+use rvmc_advice::{fail, fail_with_hint};
+use rvmc_line::{CommandLine, SourceSizes};
 use rvmc_report::faults::Fault;
+use rvmc_views::{Wanted, put_list, put_page};
 use std::alloc::Global;
-use std::io::Write;
+use std::io::{Read, Write};
 
 /// The status of a text that was written as it was made, and whether the writer took all of it; or of the fault that is in
 /// its place, or that cuts it short, which is told on standard error.
@@ -39,5 +46,57 @@ pub(crate) fn tell_made<O: Write, E: Write>(
         Ok(true) => 0,
         Ok(false) => fail(err, Fault::Write),
         Err(fault) => fail_with_hint(alloc, line, bytes, fault, err),
+    }
+}
+
+/// `list`: a record is read, and the steps that are wanted are written in words, piece by piece.
+#[tactic(auto, using(rvmc_advice::proofs::Quiet::hinted_behind))]
+pub(crate) fn listed<I: Read, O: Write, E: Write>(
+    alloc: Global,
+    line: &CommandLine,
+    wanted: &Wanted,
+    input: &mut I,
+    out: &mut O,
+    err: &mut E,
+) -> u8
+    ensures answers { (bytes : List ℕ) → I.remaining input.old ≡ Some bytes → result ≢ 6
+        → Answers (OfRecord (list_of wanted.now)) bytes result (O.contents out.old) (O.contents out.new) }
+    ensures front { TakesAtMost 67112960 (I.remaining input.old) (I.remaining input.new) }
+    ensures quiet { is_quiet result ≡ true → AppendsHint (E.contents err.old) (E.contents err.new) }
+{
+    match take(alloc, input, err) {
+        Ok(bytes) => {
+            let whole = bytes.as_slice();
+            let listed = put_list(alloc, wanted, whole, out);
+            tell_made(alloc, line, whole, listed, out, err)
+        }
+        Err(status) => status,
+    }
+}
+
+/// `page`: a record is read, and sources behind it, and a page of both is written, piece by piece.
+#[tactic(auto, using(rvmc_advice::proofs::Quiet::hinted_behind))]
+pub(crate) fn paged<I: Read, O: Write, E: Write>(
+    from: u64,
+    to: Option<u64>,
+    texts: &SourceSizes,
+    alloc: Global,
+    line: &CommandLine,
+    input: &mut I,
+    out: &mut O,
+    err: &mut E,
+) -> u8
+    ensures answers { (bytes : List ℕ) → I.remaining input.old ≡ Some bytes → result ≢ 6
+        → Answers (OfRecord (command.Page from to texts.now)) bytes result (O.contents out.old) (O.contents out.new) }
+    ensures front { TakesAtMost 67112960 (I.remaining input.old) (I.remaining input.new) }
+    ensures quiet { is_quiet result ≡ true → AppendsHint (E.contents err.old) (E.contents err.new) }
+{
+    match take(alloc, input, err) {
+        Ok(bytes) => {
+            let whole = bytes.as_slice();
+            let paged = put_page(from, to, texts, alloc, whole, out);
+            tell_made(alloc, line, whole, paged, out, err)
+        }
+        Err(status) => status,
     }
 }

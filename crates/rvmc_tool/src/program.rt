@@ -4,30 +4,26 @@ ghost use Rattle.std.specs.Prelude.{◌≡◌, ◌≢◌, IfErr, IfOk, List, OnO
 ghost use Rattle.std.specs.Io.KnownBytes.{Appends, Keeps};
 ghost use Rattle.rvmc_tool.specs.Made.{is_written_as_made};
 ghost use Rattle.rvmc_tool.specs.Making.{needs_threads};
-ghost use Rattle.rvmc_tool.specs.Outputs.{output_bytes};
+ghost use Rattle.rvmc_answers.specs.Outputs.{output_bytes};
 ghost use Rattle.rvmc_cli.specs.Meaning.{meaning_of};
 ghost use Rattle.rvmc_line.specs.declared.line.CommandLine.{CommandLine as Line};
-ghost use Rattle.rvmc_tool.specs.Tool.{Answers, RefusesWords, ShowsFault, is_quiet};
-ghost use Rattle.rvmc_tool.specs.Plain.{IsWhole, RefusesPlain, Tells};
-ghost use Rattle.rvmc_tool.specs.Plain.{plain_meaning_of};
+ghost use Rattle.rvmc_tool.specs.Tool.{Answers, RefusesWords, ShowsFault};
+ghost use Rattle.rvmc_advice.specs.Quiet.{is_quiet};
+ghost use Rattle.rvmc_tool.specs.Plain.{IsWhole, plain_meaning_of, RefusesPlain, Tells};
 ghost use Rattle.rvmc_hints.specs.HintLines.{AppendsHint};
 ghost use Rattle.rvmc_report.specs.Faults.{fault_status};
 ghost use Rattle.rvmc_report.specs.Input.{TakesAtMost};
 
-use crate::answers::{Answer, End, answer_to, answer_with_threads, needs_threads};
-use crate::beside::tell_run_hint;
-use crate::hints::{put_hint, tell_hint};
-use crate::listing::listed;
-use crate::mistyped::hint_words;
-use crate::outputs::Output;
-use crate::paging::paged;
+use crate::answers::{answer_to, answer_with_threads, needs_threads};
+use crate::made::{listed, paged};
 use crate::sessions::{served, served_words};
+use rvmc_advice::{fail, fail_to_read, fail_with_hint, hint_words, tell_run_hint};
+use rvmc_answers::{Answer, End, Output};
 use rvmc_cli::parse;
-use rvmc_hints::Hint;
 use rvmc_line::{CommandLine, ParseFault, RecordCommand};
-use rvmc_list::Wanted;
 use rvmc_report::faults::Fault;
 use rvmc_report::input::{InputFault, read_input};
+use rvmc_views::Wanted;
 use std::alloc::Global;
 use std::io::{Read, Write};
 use std::sync::Wait;
@@ -38,51 +34,6 @@ fn put<W: Write>(out: &mut W, text: &[u8]) -> bool
     ensures { result ≡ true → Appends (W.contents out.old) (W.contents out.new) text.now }
 {
     out.write_all(text).is_ok() && out.flush().is_ok()
-}
-
-/// Writes a fault's line on standard error, and tells whether it stands there.
-fn put_fault<E: Write>(err: &mut E, fault: Fault) -> bool {
-    writeln!(err, "rvmc: {fault}").is_ok() && err.flush().is_ok()
-}
-
-/// Tells a fault on standard error, and gives its status: 6 where the line can't be written.
-pub(crate) fn fail<E: Write>(err: &mut E, fault: Fault) -> u8
-    ensures status { result ≢ 6 → result ≡ fault_status fault }
-    ensures loud { is_quiet result ≡ false }
-{
-    if put_fault(err, fault) {
-        fault.status()
-    } else {
-        Fault::Write.status()
-    }
-}
-
-/// The same, with a hint behind the line where there is one. A hint changes no status.
-pub(crate) fn fail_with_hint<E: Write>(
-    alloc: Global,
-    line: &CommandLine,
-    bytes: &[u8],
-    fault: Fault,
-    err: &mut E,
-) -> u8
-    ensures status { result ≢ 6 → result ≡ fault_status fault }
-    ensures loud { is_quiet result ≡ false }
-{
-    if !put_fault(err, fault) {
-        return Fault::Write.status();
-    }
-    tell_hint(alloc, line, bytes, &fault, err);
-    fault.status()
-}
-
-/// Tells that the input can't be read, or is too long, and which can.
-pub(crate) fn fail_to_read<E: Write>(err: &mut E) -> u8
-    ensures status { result ≡ 6 }
-{
-    if put_fault(err, Fault::Read) {
-        put_hint(err, Hint::Input);
-    }
-    Fault::Read.status()
 }
 
 /// Writes a text on standard output with this status, or else tells that a write failed.
@@ -249,7 +200,7 @@ fn obey_by_pieces<I: Read, O: Write, E: Write>(
 }
 
 /// Does what a command line asks for that needs no threads.
-#[tactic(auto, using(crate::proofs::Quiet::hinted_behind))]
+#[tactic(auto, using(rvmc_advice::proofs::Quiet::hinted_behind))]
 fn obey<I: Read, O: Write, E: Write>(
     line: &CommandLine,
     alloc: Global,
@@ -277,7 +228,7 @@ fn obey<I: Read, O: Write, E: Write>(
 }
 
 /// Does what any command line asks for.
-#[tactic(auto, using(crate::proofs::Quiet::hinted_behind))]
+#[tactic(auto, using(rvmc_advice::proofs::Quiet::hinted_behind))]
 fn obey_with_threads<R: Threads + Wait + Sync, I: Read, O: Write, E: Write>(
     rt: &R,
     alloc: Global,
@@ -317,7 +268,7 @@ fn refuse<E: Write>(alloc: Global, words: &[&str], text: &str, err: &mut E) -> u
 }
 
 /// Shows what there is in place of a command line.
-#[tactic(auto, using(crate::proofs::Quiet::unhinted))]
+#[tactic(auto, using(rvmc_advice::proofs::Quiet::unhinted))]
 fn show<O: Write, E: Write>(
     alloc: Global,
     words: &[&str],

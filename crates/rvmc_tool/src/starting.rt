@@ -6,18 +6,18 @@ ghost use Rattle.rv_image_types.specs.Image.{IsImage};
 ghost use Rattle.rv_image_types.specs.declared.images.ImageParts.{ImageParts};
 ghost use Rattle.cl_record.specs.Plans.{HasPlans};
 ghost use Rattle.rvmc_explore.specs.Starting.{StartFaultHolds, TellsFrom};
-ghost use Rattle.rvmc_tool.specs.Answers.{ByPlans, IsExploredFrom, IsSplitOf};
-ghost use Rattle.rvmc_tool.specs.Ends.{end_status};
-ghost use Rattle.rvmc_tool.specs.Making.{IsMakingFault, IsRunFault, IsWhole};
-ghost use Rattle.rvmc_tool.specs.Outputs.{output_bytes};
+ghost use Rattle.rvmc_answers.specs.Plans.{ByPlans};
+ghost use Rattle.rvmc_tool.specs.Answers.{IsExploredFrom, IsSplitOf};
+ghost use Rattle.rvmc_answers.specs.Ends.{end_status};
+ghost use Rattle.rvmc_answers.specs.Making.{IsMakingFault, IsRunFault, IsWhole};
+ghost use Rattle.rvmc_answers.specs.Outputs.{output_bytes};
 ghost use Rattle.rvmc_tool.specs.Starting.{IsJoinFault, IsNoStart, IsRecordBehind, IsToldOfStart, IsToldTogether};
 
-use crate::answers::{Answer, End};
-use crate::outputs::Output;
-use crate::plans::{listed, plans};
 use cl_record::has_plans;
 use cl_text::RecordText;
 use rv_image_types::Image;
+use rvmc_answers::plans::{listed, plans};
+use rvmc_answers::{Answer, End, Output};
 use rvmc_explore::{
     Asked, Reach, StartFault, Told, explored_from, recorded_from, split as starts_of,
 };

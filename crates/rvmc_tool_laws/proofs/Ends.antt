@@ -10,7 +10,7 @@ use Rattle.cl_state.specs.Room.{rank_of}
 use Rattle.cl_state.specs.declared.state.RankState.{RankState}
 use Rattle.cl_threads.specs.Alone.{StopsFor}
 use Rattle.cl_trace.specs.Traces.{TraceView}
-use Rattle.rvmc_tool.specs.Plans.{IsPlanOf, listed}
+use Rattle.rvmc_answers.specs.Plans.{IsPlanOf, listed}
 use Rattle.rvmc_tool_laws.specs.Answers.{FitsStop, StopsFitLaw}
 use Rattle.rvmc_report.specs.Report.{RankEnd, ends_of, rank_end, rank_ends}
 

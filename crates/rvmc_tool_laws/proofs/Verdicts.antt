@@ -1,6 +1,6 @@
 -- The verdict that is told is right.
 use Rattle.std.proofs.Common.{take}
-use Rattle.rvmc_tool.specs.Records.{IsWhyAt}
+use Rattle.rvmc_answers.specs.Whys.{IsWhyAt}
 use Rattle.rvmc_tool_laws.specs.Answers.{VerdictIsTrueLaw}
 
 pub verdict_is_true : VerdictIsTrueLaw

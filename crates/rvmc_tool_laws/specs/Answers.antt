@@ -9,10 +9,11 @@ use Rattle.cl_replay.specs.declared.checking.Verdict.TheVariants.{Good}
 use Rattle.cl_machine.specs.declared.steps.Step.{Step}
 use Rattle.cl_deadlock.specs.Why.{IsVerdictOf}
 use Rattle.rv_image_types.specs.declared.images.ImageParts.{ImageParts}
-use Rattle.rvmc_tool.specs.Answers.{IsLeftByThreads, IsTextOf, IsTold, Says}
-use Rattle.rvmc_tool.specs.Ends.{IsDone}
-use Rattle.rvmc_tool.specs.Records.{IsWhyAt}
-use Rattle.rvmc_tool.specs.Plans.{ArePlansOf, listed}
+use Rattle.rvmc_runs.specs.Runs.{IsLeftByThreads, IsTextOf, IsTold}
+use Rattle.rvmc_tool.specs.Answers.{Says}
+use Rattle.rvmc_answers.specs.Ends.{IsDone}
+use Rattle.rvmc_answers.specs.Whys.{IsWhyAt}
+use Rattle.rvmc_answers.specs.Plans.{ArePlansOf, listed}
 use Rattle.rvmc_line.specs.declared.line.CommandLine.{CommandLine}
 use Rattle.rvmc_line.specs.declared.line.CommandLine.TheVariants.{OfImage, OfRecord}
 use Rattle.rvmc_line.specs.declared.line.ImageCommand.TheVariants.{One, OneUntilStuck, Run, RunUntilStuck}

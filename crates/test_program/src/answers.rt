@@ -4,17 +4,18 @@ ghost use Rattle.std.specs.Prelude.{◌≡◌, ◌≢◌, ◌⊎◌, ℕ, [], �
 ghost use Rattle.cl_record.specs.declared.plans.Plan.{Plan as Held};
 ghost use Rattle.cl_text.specs.declared.faults.RecordFault.TheVariants.{Short};
 ghost use Rattle.rv_asm_tokens.specs.declared.fault.AsmFault.{AsmFault};
-ghost use Rattle.rvmc_tool.specs.Ends.{end_status};
+ghost use Rattle.rvmc_answers.specs.Ends.{end_status};
 ghost use Rattle.rvmc_tool.specs.Made.{is_written_as_made};
 ghost use Rattle.rvmc_tool.specs.Making.{needs_threads};
-ghost use Rattle.rvmc_tool.specs.Outputs.{output_bytes};
+ghost use Rattle.rvmc_answers.specs.Outputs.{output_bytes};
 ghost use Rattle.rvmc_report.specs.declared.faults.Fault.TheVariants as faults;
 
 use cl_run::Plan;
+use rvmc_answers::Answer;
+use rvmc_answers::plans::{listed, plans};
 use rvmc_line::{CommandLine, ImageCommand, RecordCommand, Written};
 use rvmc_report::faults::Fault;
-use rvmc_tool::answers::{Answer, answer_to, answer_with_threads};
-use rvmc_tool::plans::{listed, plans};
+use rvmc_tool::answers::{answer_to, answer_with_threads};
 use rvmc_words::Numbers;
 use std::alloc::{AllocError, Global};
 use std::sync::Wait;

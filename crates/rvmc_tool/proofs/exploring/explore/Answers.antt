@@ -1,6 +1,6 @@
 use Rattle.std.proofs.Common.{rules, ◌≡◌, ◌<◌, length, subst, sym}
 use Rattle.cl_record.specs.Plans.{HasPlans}
-use Rattle.rvmc_tool.specs.Plans.{listed}
+use Rattle.rvmc_answers.specs.Plans.{listed}
 use Rattle.rvmc_tool.proofs.Fitting.{names_one}
 use Rattle.rvmc_tool.proofs.exploring.explore.Goals as goal
 

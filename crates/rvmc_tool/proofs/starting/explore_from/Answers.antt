@@ -1,7 +1,7 @@
 use Rattle.std.proofs.Common.{rules, ◌≡◌, ◌<◌, ap, length, subst}
 use Rattle.rv_image_types.specs.declared.images.ImageParts.{ImageParts}
 use Rattle.cl_record.specs.Plans.{HasPlans}
-use Rattle.rvmc_tool.specs.Plans.{ArePlansOf}
+use Rattle.rvmc_answers.specs.Plans.{ArePlansOf}
 use Rattle.rvmc_tool.proofs.Fitting.{names_one}
 use Rattle.rvmc_tool.proofs.starting.explore_from.Goals as goal
 

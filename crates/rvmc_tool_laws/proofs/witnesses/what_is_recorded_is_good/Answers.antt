@@ -1,7 +1,7 @@
 use Rattle.std.proofs.Common.{◌∙◌, refl, subst, true}
 use Rattle.rvmc_tool.specs.Answers.{Says}
-use Rattle.rvmc_tool.specs.Ends.{end_status}
-use Rattle.rvmc_tool.specs.Outputs.{output_bytes}
+use Rattle.rvmc_answers.specs.Ends.{end_status}
+use Rattle.rvmc_answers.specs.Outputs.{output_bytes}
 use Rattle.rvmc_line.specs.declared.line.CommandLine.TheVariants.{OfImage, OfRecord}
 use Rattle.rvmc_line.specs.declared.line.ImageCommand.TheVariants.{One}
 use Rattle.rvmc_line.specs.declared.line.RecordCommand.TheVariants.{Check}

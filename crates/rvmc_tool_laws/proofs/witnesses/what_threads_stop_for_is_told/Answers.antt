@@ -1,6 +1,6 @@
 use Rattle.std.proofs.Common.{◌∙◌, refl, subst, sym, Some}
 use Rattle.rv_image_types.specs.declared.images.ImageParts.{ImageParts}
-use Rattle.rvmc_tool.specs.Plans.{ArePlansOf}
+use Rattle.rvmc_answers.specs.Plans.{ArePlansOf}
 use Rattle.rvmc_report.specs.Report.{rank_ends, report, status_of}
 use Rattle.cl_threads.specs.Runs.{IsThreadRun}
 use Rattle.rvmc_tool_laws.proofs.witnesses.what_threads_stop_for_is_told.Goals as goal

@@ -1,0 +1,146 @@
+//! What is told beside an output, and before the input comes.
+
+ghost use Rattle.rvmc_hints.specs.HintLines.{AppendsHint};
+
+use crate::hints::{put_hint, wanted_by};
+use rvmc_answers::Output;
+use rvmc_hints::{Awaited, Hint, INPUT_MOST, RunHint, Runner, next_bound, put_run_hint};
+use rvmc_line::{CommandLine, ImageCommand, Written};
+use std::alloc::Global;
+use std::io::Write;
+
+/// What can be told of a record of so many bytes: that no command reads it, where that is so.
+fn length_hint(bytes: u64) -> Option<RunHint> {
+    if bytes > INPUT_MOST {
+        Some(RunHint::LongRecord(bytes))
+    } else {
+        None
+    }
+}
+
+/// The command that may be run with a larger budget, and the next one, where there is one.
+fn next_budget(line: &CommandLine) -> Option<(Runner, u64)> {
+    let CommandLine::OfImage { command, .. } = line else {
+        return None;
+    };
+    match command {
+        ImageCommand::Run { budget, .. } | ImageCommand::RunUntilStuck { budget, .. } => {
+            Some((Runner::Run, next_bound(*budget)?))
+        }
+        ImageCommand::One { budget, .. } | ImageCommand::OneUntilStuck { budget, .. } => {
+            Some((Runner::One, next_bound(*budget)?))
+        }
+        _ => None,
+    }
+}
+
+/// What can be told where a hart waits at the end of a budget, in a run of this status: behind a trap it is about that, and
+/// a larger budget changes nothing.
+fn waiting_hint(line: &CommandLine, status: u8) -> RunHint {
+    match (status, next_budget(line)) {
+        (4, Some((runner, budget))) => RunHint::WaitsBelow(runner, budget),
+        _ => RunHint::Waits,
+    }
+}
+
+/// What can be told of a run of this status that a budget cut short.
+fn spent_hint(line: &CommandLine, status: u8) -> Option<RunHint> {
+    match (status, next_budget(line)) {
+        (4, Some((runner, budget))) => Some(RunHint::Spent(runner, budget)),
+        (4, None) => Some(RunHint::SpentAll),
+        _ => None,
+    }
+}
+
+/// Whether a report has what each hart waits for at its end.
+fn tells_waits(line: &CommandLine) -> bool {
+    let CommandLine::OfImage { command, .. } = line else {
+        return false;
+    };
+    match command {
+        ImageCommand::Run { written, .. }
+        | ImageCommand::RunUntilStuck { written, .. }
+        | ImageCommand::One { written, .. }
+        | ImageCommand::OneUntilStuck { written, .. } => matches!(written, Written::Why { .. }),
+        _ => false,
+    }
+}
+
+/// The same of a report of such a run: nothing where a deadlock is told at its end, from which nobody goes further.
+fn report_hint(line: &CommandLine, text: &[u8], status: u8) -> Option<RunHint> {
+    if tells_waits(line) && !text.ends_with(b"no deadlock shown\n") {
+        return None;
+    }
+    spent_hint(line, status)
+}
+
+/// What can be told of a search that left states, as the end of its text says.
+fn left_hint(states: u64, turns: u64, text: &[u8]) -> Option<RunHint> {
+    if text.ends_with(b" states are left\n") {
+        match next_bound(states) {
+            Some(states) => Some(RunHint::States(states)),
+            None => Some(RunHint::StatesAll),
+        }
+    } else if text.ends_with(b" turns alone\n") {
+        Some(RunHint::Turns(next_bound(turns)?))
+    } else {
+        None
+    }
+}
+
+/// What can be told of a text that is no report.
+fn text_hint(line: &CommandLine, text: &[u8]) -> Option<RunHint> {
+    let CommandLine::OfImage { command, .. } = line else {
+        return None;
+    };
+    match command {
+        ImageCommand::Explore { states, turns, .. }
+        | ImageCommand::ExploreFrom { states, turns, .. } => left_hint(*states, *turns, text),
+        _ => None,
+    }
+}
+
+/// What can be told of a record of a run that a budget cut short.
+fn record_hint(line: &CommandLine, bytes: u64, status: u8) -> Option<RunHint> {
+    match length_hint(bytes) {
+        Some(hint) => Some(hint),
+        None => spent_hint(line, status),
+    }
+}
+
+/// What can be told beside an output.
+fn run_hint(line: &CommandLine, output: &Output, status: u8) -> Option<RunHint> {
+    match output {
+        Output::Text(text) => text_hint(line, text.as_slice()),
+        Output::Waiting(_) => Some(waiting_hint(line, status)),
+        Output::Spent(text) => report_hint(line, text.as_slice(), status),
+        Output::Record(text) => length_hint(text.len()?),
+        Output::SpentRecord(text) => record_hint(line, text.len()?, status),
+    }
+}
+
+/// Writes what can be told beside an output of this status, if there is anything.
+#[tactic(auto, using(crate::proofs::Quiet::unhinted, crate::proofs::Quiet::kept))]
+pub fn tell_run_hint<E: Write>(
+    alloc: Global,
+    line: &CommandLine,
+    output: &Output,
+    status: u8,
+    err: &mut E,
+)
+    ensures { AppendsHint (E.contents err.old) (E.contents err.new) }
+{
+    if let Some(hint) = run_hint(line, output, status) {
+        put_run_hint(alloc, err, hint);
+    }
+}
+
+/// Writes what a command waits for that reads standard input; with `behind_a_file` a record comes from a file before it.
+pub fn tell_wait<E: Write>(line: &CommandLine, behind_a_file: bool, err: &mut E) {
+    let awaited = match line {
+        CommandLine::WordSession if behind_a_file => Awaited::Words,
+        _ if behind_a_file => Awaited::Packets,
+        _ => Awaited::Whole(wanted_by(line)),
+    };
+    put_hint(err, Hint::Awaited(awaited));
+}

@@ -1,0 +1,4 @@
+pub mod Left
+pub mod Lists
+pub mod Pages
+pub mod Readings

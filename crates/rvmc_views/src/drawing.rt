@@ -1,0 +1,62 @@
+//! Pictures of records.
+
+ghost use Rattle.std.specs.Prelude.{◌≡◌, IfErr, IfOk};
+ghost use Rattle.rvmc_line.specs.declared.line.RecordCommand.TheVariants as command;
+ghost use Rattle.rvmc_picture.specs.Pictures.{IsDrawing, view_of};
+ghost use Rattle.rvmc_views.specs.Faults.{IsStepsFault};
+ghost use Rattle.rvmc_answers.specs.Outputs.{output_bytes};
+ghost use Rattle.rvmc_views.specs.Records.{IsPicture};
+ghost use Rattle.rvmc_answers.specs.declared.answers.End.TheVariants.{Status};
+
+use cl_machine::Step;
+use rv_image_types::Image;
+use rvmc_answers::{Answer, End, Output};
+use rvmc_draw::Drawing;
+use rvmc_picture::{DrawFault, drawing};
+use rvmc_report::faults::{DrawRefusal, Fault};
+use rvmc_svg::svg;
+use std::alloc::Global;
+
+/// What is drawn of the steps from one place to another, or why nothing is.
+fn drawn(
+    alloc: Global,
+    from: u64,
+    to: Option<u64>,
+    image: &Image,
+    steps: &[Step],
+) -> Result<Drawing, Fault>
+    ensures is { IfOk result (λ picture. IsDrawing image.now steps.now (view_of from to steps.now) picture) }
+    ensures fault { IfErr result (IsStepsFault (command.Draw from to) image.now steps.now) }
+{
+    match drawing(alloc, image, steps, from, to) {
+        Ok(picture) => Ok(picture),
+        Err(DrawFault::PastEnd(count)) => Err(Fault::Draw(DrawRefusal::PastEnd(count))),
+        Err(DrawFault::NotARun(number)) => Err(Fault::Draw(DrawRefusal::NotARun(number))),
+        Err(DrawFault::TooMany(count)) => Err(Fault::Draw(DrawRefusal::TooMany(count))),
+        Err(DrawFault::Memory) => Err(Fault::Memory),
+    }
+}
+
+/// `draw`: the steps from one place to another as a picture. A place that isn't there, a wrong step, and more marks than a
+/// picture may have are faults of the input.
+pub(crate) fn pictured(
+    alloc: Global,
+    from: u64,
+    to: Option<u64>,
+    image: &Image,
+    steps: &[Step],
+) -> Result<Answer, Fault>
+    ensures tells { IfOk result (λ answer.
+        IsPicture image.now steps.now from to (output_bytes answer.output) × (answer.end ≡ Status 0)) }
+    ensures fault { IfErr result (IsStepsFault (command.Draw from to) image.now steps.now) }
+{
+    let picture = drawn(alloc, from, to, image, steps)?;
+    // nothing but memory is refused where a text is put together
+    let Ok(text) = svg(alloc, &picture) else {
+        return Err(Fault::Memory);
+    };
+    Ok(Answer {
+        output: Output::Text(text),
+        end: End::Status(0),
+    })
+}
