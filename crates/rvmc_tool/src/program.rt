@@ -11,7 +11,6 @@ ghost use Rattle.rvmc_tool.specs.Tool.{Answers, RefusesWords, ShowsFault};
 ghost use Rattle.rvmc_advice.specs.Quiet.{is_quiet};
 ghost use Rattle.rvmc_tool.specs.Plain.{IsWhole, plain_meaning_of, RefusesPlain, Tells};
 ghost use Rattle.rvmc_hints.specs.HintLines.{AppendsHint};
-ghost use Rattle.rvmc_report.specs.Faults.{fault_status};
 ghost use Rattle.rvmc_report.specs.Input.{TakesAtMost};
 
 use crate::answers::{answer_to, answer_with_threads, needs_threads};
