@@ -1,8 +1,9 @@
 """Random guests whose ranks contest one another's messages: several send alike ones to one rank, and what a rank does next
-hangs on whose message it got."""
+depends on whose message it got."""
 
 import races
-from races import INCOMING, IPROBE, IRECV, LISTS, OUTGOING, PROBE, RECV, SEND, STATUSES, TEST, TESTALL, WAITALL
+from races import IMPROBE, INCOMING, IPROBE, IRECV, ISSEND, LISTS, MPROBE, OUTGOING, PROBE, RECV, SEND, STATUSES, TEST, TESTALL
+from races import WAITALL
 
 
 # the calls that claim, and those that go on where nothing is there
@@ -10,16 +11,17 @@ CLAIMS, POLLS = (26, 27, 28, 29), (22, 24, 26, 34)
 
 
 class Contests(races.Races):
-    """Guests that a draw makes. Most have no claim, link or second hart, with which nothing goes first, and no poll, which
-    contests all that others send and receive. In some, messages leave no trace: they come to a buffer that is cleared, and no
-    status is kept. So states differ in nothing but posts, whoever made those that are over."""
+    """Guests that a draw makes. Most have no link or second hart, with which nothing goes first, and no claim, which contests all
+    that others send and receive. In many, one rank alone polls, and most messages go to others, so that they are nothing to it.
+    In some, messages leave no trace: they come to a buffer that is cleared, and no status is kept. So states differ in nothing
+    but posts, whoever made those that are over."""
 
     def __init__(self, draw):
         super().__init__(draw)
         self.left_out = set()
-        # the rank that never ends, or None; and the one to which most messages go
-        self.spinning, self.to = None, 0
-        self.is_traceless = False
+        # the ranks that poll; the one that never ends, or None; and the one to which most messages go
+        self.pollers, self.spinning, self.to = [], None, 0
+        self.claims_too = self.is_traceless = False
 
     def such(self, make):
         """What is drawn, without the calls that the guest hasn't."""
@@ -35,7 +37,11 @@ class Contests(races.Races):
 
     def receives(self, message):
         """A receive of a message."""
-        pieces = self.such(lambda: super(Contests, self).receives(message))
+        if self.claims_too and self.chance(1, 3):
+            selected, numbers = self.selected(message), [IMPROBE, MPROBE]
+            pieces = self.such(lambda: self.claims(self.random.choice(numbers), selected, *self.incoming()))
+        else:
+            pieces = self.such(lambda: super(Contests, self).receives(message))
         return [*pieces[:-1], pieces[-1] + self.cleared(1)] if self.is_traceless else pieces
 
     @staticmethod
@@ -113,6 +119,7 @@ class Contests(races.Races):
 
     def things_in_cases(self, rank, messages, links):
         """What a rank does: its part in each message, and more in some cases."""
+        self.left_out = self.missing(rank)
         together = [message for message in messages if message[1] == rank][:3] if self.is_traceless else []
         together = together if len(together) > 1 and self.chance(1, 2) else []
         things = self.things(rank, 0, [message for message in messages if message not in together], links, False)
@@ -120,8 +127,33 @@ class Contests(races.Races):
         for pieces in things:
             if self.chance(1, 4):
                 pieces.insert(1 + self.below(len(pieces)), self.case(rank))
+        things += [self.polls(rank)] if rank in self.pollers and self.chance(2, 3) else []
         things += [[self.spin()]] if rank == self.spinning else []
         return things + ([[self.case(rank)]] if self.chance(1, 3) else [])
+
+    def missing(self, rank):
+        """The lines of the calls that a rank hasn't."""
+        none = set() if self.claims_too else set(CLAIMS)
+        none |= set() if rank in self.pollers else set(POLLS)
+        return {f"li a7, {number}" for number in none}
+
+    def polls(self, rank):
+        """Polls of a rank, few or many, for what may come to it or not, or of a synchronous send of its own."""
+        selected = self.random.choice([-1, self.below(self.ranks)]), self.random.choice([-1, 0, 1]), 0
+        other = self.random.choice([number for number in range(self.ranks) if number != rank])
+        lines, handle = self.draw.one(
+            (lambda: self.kept(self.call(IRECV, *self.incoming(), *selected)), 3),
+            (lambda: self.kept(self.call(ISSEND, *self.outgoing(), other, self.below(2), 0)), 2),
+        )
+        array = [f"sd {handle}, {LISTS}(s0)"]
+        return self.such(
+            lambda: self.draw.one(
+                (lambda: [self.call(IPROBE, *selected, 0) for _ in range(1 + self.below(3))], 4),
+                (lambda: [self.call(IMPROBE, *selected, 0)], 2),
+                (lambda: [lines] + [self.call(TEST, handle, 0) for _ in range(1 + self.below(3))], 3),
+                (lambda: [lines] + [[*array, *self.call(TESTALL, (LISTS,), 1, 0)] for _ in range(1 + self.below(2))], 3),
+            )
+        )
 
     def message(self):
         """Whose a message is, to whom, and its tag and communicator."""
@@ -144,11 +176,11 @@ class Contests(races.Races):
         self.ranks, self.harts = self.random.choice([2, 2, 2, 3, 3, 3, 3, 3, 4]), 1
         if self.chance(1, 40):
             self.harts = 2
-        none = set() if self.chance(1, 20) else set(CLAIMS)
-        none |= set() if self.chance(1, 3) else set(POLLS)
-        self.left_out, everybody = {f"li a7, {number}" for number in none}, list(range(self.ranks))
+        self.claims_too, everybody = self.chance(1, 3), list(range(self.ranks))
+        self.pollers = self.random.choice([[], [self.below(self.ranks)], [self.below(self.ranks)], everybody])
         self.comms = [everybody] + [self.random.sample(everybody, 2) for _ in range(self.random.choice([0, 0, 1]))]
-        self.spinning, self.to = self.below(self.ranks) if self.chance(1, 8) else None, self.below(self.ranks)
+        self.spinning = self.below(self.ranks) if self.chance(1, 8) else None
+        self.to = self.random.choice([rank for rank in everybody if [rank] != self.pollers])
         self.is_traceless = self.chance(1, 3)
         messages, most = [], 6 if self.is_traceless else 4
         for _ in range(self.random.choice([1, 1, 2, 2, 2, 3]) + (most - 4)):

@@ -62,13 +62,13 @@ use Rattle.cl_outcome_laws.specs.Companies.{IsCompany}
 use Rattle.cl_reduction_laws.specs.Below.{AskOfLive, AskWithin}
 use Rattle.cl_schedule_laws.specs.Machines.{AllWithin as AllInside, GoesOn}
 use Rattle.cl_reduction_laws.specs.Clusters.{Search, State, cluster_machine}
-use Rattle.cl_reduction_laws.specs.Settled.{AllWithin, IsFit}
+use Rattle.cl_reduction_laws.specs.Settled.{AllWithin, FindsClaim, IsFit}
 use Rattle.cl_reduction_laws.proofs.Clusters.{cluster_machine_law}
 use Rattle.cl_reduction_laws.proofs.Follows.{asks_live, asks_too, pair, pair_from, waits_too}
 use Rattle.cl_reduction_laws.proofs.Good.{Gone, IsMade, IsOwn, alone, called, gone, made_within}
 use Rattle.cl_reduction_laws.proofs.Machine.{taken}
 use Rattle.cl_contest_laws.proofs.Ends.{many_too, stops_too}
-use Rattle.cl_contest_laws.proofs.Rest.{Alike, alike_back}
+use Rattle.cl_contest_laws.proofs.Rest.{Alike, alike_back, claims_or_vain}
 
 -- ---- who could bring it, in hubs that are alike
 
@@ -496,12 +496,18 @@ module _ (search : Search) (image : ImageParts) (ranks : List ℕ) where
           let live : AsksOfLive (hub_of a.cluster.journal).board held.q =
           subst (AskOfLive a.cluster) held.asks (asks_live search a r (hart r) x here) in
           let site : y.site ≡ x.site = ap (λ (z : Rank). z.site) both.1 in
+          let none =
+          (answers_law.reply) search.wild alike.0 a.cluster.journal.links node.cluster.journal.links
+          (calls_of a.cluster.journal.entries) (calls_of node.cluster.journal.entries) r held.q may live (alike.1).hubs
+          ∙ (held.waits).0 in
           record {
-            patient = (fit.rests r y there on).0;
+            patient = elim (fit.rests r y there on) [
+              | inl waits ↦ waits.0
+              | inr found ↦ absurd (claims_or_vain node.cluster r (request_by alike.0 held.q)
+                  (reply_is node.cluster.journal r (request_by alike.0 held.q) ∙ none) (subst (FindsClaim node.cluster r) asks found))
+            ];
             in_vain = subst (AsksInVain ranks node.cluster r y.site) (sym asks) (
-              (answers_law.reply) search.wild alike.0 a.cluster.journal.links node.cluster.journal.links
-                  (calls_of a.cluster.journal.entries) (calls_of node.cluster.journal.entries) r held.q may live (alike.1).hubs
-                  ∙ (held.waits).0,
+              none,
               subst (λ (z : Site). IsUpTo (is_member z) (is_among ranks) (hub_of node.cluster.journal) r (request_by alike.0 held.q))
                   (sym site)
                   (up_to_named (is_member x.site) (is_among ranks) search.wild alike.0 (hub_of a.cluster.journal)

@@ -7,21 +7,27 @@ use Rattle.rv_hart.specs.State.{State as Hart}
 use Rattle.rv_hart.specs.declared.state.Mode.{Mode}
 use Rattle.rv_hart.specs.declared.state.Mode.TheVariants.{Running, Waiting, Ended, Trapped}
 use Rattle.rv_hart.specs.declared.state.Wait.TheVariants.{Post, Again}
-use Rattle.mp_alike_laws.specs.Renaming.{Renaming, number_by}
-use Rattle.cl_names_laws.specs.Named.{hart_by, mode_by, rank_by}
-use Rattle.cl_state.specs.Asked.{Part, no_hart}
+use Rattle.mp_alike_laws.specs.Renaming.{Renaming, number_by, request_by}
+use Rattle.mp_source_laws.proofs.Answers.{answers_law}
+use Rattle.cl_journal.specs.Journal.{calls_of}
+use Rattle.cl_names_laws.specs.Named.{ask_by, hart_by, mode_by, rank_by}
+use Rattle.cl_state.specs.declared.asking.Ask.{Ask}
+use Rattle.cl_state.specs.Asked.{Part, asked, no_hart}
 use Rattle.cl_state.specs.Rank.{Rank}
 use Rattle.cl_state_laws.specs.Awake.{awake, awake_hart, woken}
 use Rattle.cl_state_laws.specs.Vain.{IsStopped, IsWaiting, mode_of}
 use Rattle.cl_state_laws.specs.VainLaws.{at_clock}
 use Rattle.cl_state_laws.proofs.Wakes.{part_awake}
 use Rattle.cl_order_laws.specs.Alike.{AlikeRanks}
+use Rattle.cl_order_laws.specs.Closed.{IsInVain}
 use Rattle.cl_order_laws.proofs.Ahead.{mode_alike}
-use Rattle.cl_reduction_laws.specs.Below.{AreAlike}
+use Rattle.cl_order_laws.proofs.SureHub.{reply_is}
+use Rattle.cl_reduction_laws.specs.Below.{AreAlike, AskOfLive, AskWithin}
 use Rattle.cl_reduction_laws.specs.Clusters.{Search, State}
-use Rattle.cl_reduction_laws.specs.Settled.{IsFit}
-use Rattle.cl_reduction_laws.proofs.Follows.{pair, pair_from, waits_too}
-use Rattle.cl_contest_laws.proofs.Rest.{Alike, AllRest, Rests}
+use Rattle.cl_reduction_laws.specs.Settled.{FindsClaim, IsFit}
+use Rattle.cl_reduction_laws.proofs.Clusters.{cluster_machine_law}
+use Rattle.cl_reduction_laws.proofs.Follows.{asks_live, asks_too, pair, pair_from, waits_too}
+use Rattle.cl_contest_laws.proofs.Rest.{Alike, AllRest, Rests, alike_back, claims_or_vain}
 
 -- ---- modes
 
@@ -119,6 +125,26 @@ module _ (search : Search) (zero_harts : (r : ℕ) → search.harts r ≡ 0) (a 
     rests : Rests search node.cluster r y
     mode : mode_of y 0 ≡ mode_by alike.0 (mode_of x 0)
 
+  -- where a rank's call is in vain, so is that of the one that corresponds, which claims nothing then
+  claims_none : (r : ℕ) (x : Rank) → slice_get a.cluster.ranks r ≡ Some x → (q : Ask) → asked x (search.harts r) ≡ q
+      → IsInVain a.cluster r q → FindsClaim node.cluster r (ask_by alike.0 q) → ⊥
+  claims_none r x here (Ask.Hub q) is none found =
+      claims_or_vain node.cluster r (request_by alike.0 q)
+      (reply_is node.cluster.journal r (request_by alike.0 q)
+      ∙ (answers_law.reply) search.wild alike.0 a.cluster.journal.links node.cluster.journal.links
+      (calls_of a.cluster.journal.entries) (calls_of node.cluster.journal.entries) r q
+      (subst (AskWithin search.wild r) is
+      ((cluster_machine_law search).within r node a (alike_back search a node alike) (fit.within r) x here).1)
+      (subst (AskOfLive a.cluster) is (asks_live search a r (search.harts r) x here)) (alike.1).hubs
+      ∙ sym (reply_is a.cluster.journal r q) ∙ none) found
+  claims_none r x here Ask.Plain is none found = found
+  claims_none r x here Ask.Local is none found = found
+  claims_none r x here Ask.Idle is none found = found
+  claims_none r x here Ask.Held is none found = found
+  claims_none r x here (Ask.Ready link part bytes) is none found = found
+  claims_none r x here (Ask.Look link part) is none found = found
+  claims_none r x here (Ask.Freed link part) is none found = found
+
   pairs_of : (r : ℕ) (x y : Rank) → slice_get a.cluster.ranks r ≡ Some x → slice_get node.cluster.ranks r ≡ Some y
       → AlikeRanks alike.0 (awake x) (awake y) → Rests search a.cluster r x
       → Pairs r x y
@@ -130,17 +156,20 @@ module _ (search : Search) (zero_harts : (r : ℕ) → search.harts r ≡ 0) (a 
         (woken_too alike.0 x y both (search.harts r)));
   }
   pairs_of r x y here there both (inr waits) =
-      let on =
-      waits_too alike.0 (search.harts r) x y ((a.good).stands r x here) ((node.good).stands r y there) both
-      ∙ (waits.0).on in
-      let too = fit.rests r y there on in
-      record {
-        pairs = both;
-        rests = inr too;
-        mode = subst (λ h. mode_of y h ≡ mode_by alike.0 (mode_of x h)) (zero_harts r)
-            (waiting_too alike.0 (mode_of y (search.harts r)) (mode_of x (search.harts r)) (waits.0).waits (too.0).waits
-            (woken_too alike.0 x y both (search.harts r)));
-      }
+      let sx = (a.good).stands r x here in
+      let sy = (node.good).stands r y there in
+      let on = waits_too alike.0 (search.harts r) x y sx sy both ∙ (waits.0).on in
+      elim (fit.rests r y there on) [
+        | inl too ↦ record {
+          pairs = both;
+          rests = inr too;
+          mode = subst (λ h. mode_of y h ≡ mode_by alike.0 (mode_of x h)) (zero_harts r)
+              (waiting_too alike.0 (mode_of y (search.harts r)) (mode_of x (search.harts r)) (waits.0).waits (too.0).waits
+              (woken_too alike.0 x y both (search.harts r)));
+        }
+        | inr found ↦ absurd (claims_none r x here (asked x (search.harts r)) refl waits.1
+            (subst (FindsClaim node.cluster r) (asks_too alike.0 (search.harts r) x y sx sy both) found))
+      ]
 
   -- all rest at the node too
   pub rest_too : AllRest search node.cluster

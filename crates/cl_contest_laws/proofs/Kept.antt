@@ -6,7 +6,9 @@ use Rattle.std.proofs.lemmas.Bool.{eq-eqb, eqb-true}
 use Rattle.rv_hart.specs.declared.state.Mode.{Mode}
 use Rattle.rv_hart.specs.declared.state.Mode.TheVariants.{Running, Waiting, Ended, Trapped}
 use Rattle.rv_hart.specs.declared.state.Wait.TheVariants.{Post, Again}
-use Rattle.cl_state.specs.Asked.{doing, part_of}
+use Rattle.cl_calls.specs.declared.calls.Call.{Call}
+use Rattle.cl_calls.specs.declared.calls.Call.TheVariants as call
+use Rattle.cl_state.specs.Asked.{asked, asked_in, asked_poll, doing, doing_in, part_of}
 use Rattle.cl_state.specs.Rank.{Rank}
 use Rattle.cl_state_laws.specs.Vain.{IsStopped, mode_of, waits_on}
 use Rattle.cl_machine.specs.Cluster.{Cluster}
@@ -16,7 +18,7 @@ use Rattle.cl_schedule_laws.specs.Machines.{IsMachine}
 use Rattle.cl_schedule_laws.specs.Laws.{HasFound, IsClosed, IsOnItsWay, Kept, Leads}
 use Rattle.cl_schedule_laws.proofs.Schedules.{has_found}
 use Rattle.cl_reduction_laws.specs.Clusters.{GoesFirst, IsWithin, Search, State, awake_cluster, cluster_machine, weight_in, weight_of}
-use Rattle.cl_reduction_laws.specs.Settled.{AllWithin, HasAlike, IsFit, IsSettled, Settles}
+use Rattle.cl_reduction_laws.specs.Settled.{AllWithin, FindsClaim, HasAlike, IsFit, IsSettled, Settles}
 use Rattle.cl_reduction_laws.proofs.Clusters.{cluster_machine_law}
 use Rattle.cl_reduction_laws.proofs.First.{polls_on}
 use Rattle.cl_reduction_laws.proofs.Machine.{taken}
@@ -43,6 +45,24 @@ light_polls rank hart Running is light = absurd (omega (arith, light))
 light_polls rank hart (Waiting Again) is light = absurd (omega (arith, light))
 light_polls rank hart (Ended value) is light = absurd (omega (arith, light))
 light_polls rank hart (Trapped cause pc) is light = absurd (omega (arith, light))
+
+-- and claims nothing
+light_claims_none : (c : Cluster) (r : ℕ) (rank : Rank) (hart : ℕ) → weight_in (mode_of rank hart) ≡ 0
+    → FindsClaim c r (asked rank hart) → ⊥
+unfolding asked doing
+light_claims_none c r rank hart light found = go (mode_of rank hart) light found
+  where
+    polls : (k : Call) (post : ℕ) → FindsClaim c r (asked_poll k post) → ⊥
+    polls (call.Ssend s) post found = found
+    polls _ post found = found
+
+    go : (m : Mode) → weight_in m ≡ 0
+        → FindsClaim c r (asked_in rank.site rank.memory rank.requests rank.phases (doing_in m rank.site (part_of rank hart))) → ⊥
+    go (Waiting (Post post)) light found = polls _ post found
+    go Running light found = absurd (omega (arith, light))
+    go (Waiting Again) light found = absurd (omega (arith, light))
+    go (Ended value) light found = absurd (omega (arith, light))
+    go (Trapped cause pc) light found = absurd (omega (arith, light))
 
 module _ (search : Search) (Is : Cluster → Type 0) where
   abbrev pub kept : Kept (cluster_machine search)
@@ -95,8 +115,10 @@ module _ (search : Search) (Is : Cluster → Type 0) where
         let t = taken r (hart r) a.cluster b.cluster turn in
         let fit = nodes.fit a.cluster node in
         let none = sym (ap (λ o. weight_of o (hart r)) t.there) ∙ light in
-        rest_alike search r a b t.rank t.there (fit.within r)
-        (inr (fit.rests r t.rank t.there (light_polls t.rank (hart r) (mode_of t.rank (hart r)) refl none))) turn
+        elim (fit.rests r t.rank t.there (light_polls t.rank (hart r) (mode_of t.rank (hart r)) refl none)) [
+          | inl waits ↦ rest_alike search r a b t.rank t.there (fit.within r) (inr waits) turn
+          | inr found ↦ absurd (light_claims_none a.cluster r t.rank (hart r) none found)
+        ]
 
     -- ---- what settles
 

@@ -2,7 +2,9 @@
 use Rattle.std.proofs.Common.{◌≡◌, ◌∙◌, ℕ, sym, ap, subst, ◌⊎◌, inl, inr, List, [], ◌∷◌, Some}
 use Rattle.std.specs.Prelude.{map}
 use Rattle.std.specs.List.{slice_get, slice_set}
+use Rattle.mp_types.specs.declared.replies.Reply.TheVariants.{NotYet}
 use Rattle.mp_types.specs.declared.requests.Request.{Request}
+use Rattle.mp_types.specs.declared.requests.Request.TheVariants as request
 use Rattle.mp_alike_laws.specs.Renaming.{no_renaming}
 use Rattle.cl_state.specs.declared.asking.Answer.TheVariants as answer
 use Rattle.cl_state.specs.declared.asking.Ask.{Ask}
@@ -14,6 +16,7 @@ use Rattle.cl_state_laws.specs.Vain.{IsStopped, mode_of}
 use Rattle.cl_state_laws.specs.VainLaws.{at_clock}
 use Rattle.cl_state_laws.proofs.Vain.{vain_law}
 use Rattle.cl_machine.specs.Cluster.{Cluster}
+use Rattle.cl_machine.specs.Journal.{reply_in}
 use Rattle.cl_order_laws.specs.Alike.{AlikeRanks, AreEach, hub_of}
 use Rattle.cl_order_laws.specs.Closed.{IsInVain, WaitsInVain}
 use Rattle.cl_order_laws.proofs.Each.{each_set}
@@ -24,7 +27,7 @@ use Rattle.cl_reduction_laws.proofs.Below.{likeness_law}
 use Rattle.cl_reduction_laws.specs.Below.{Turn}
 use Rattle.cl_schedule_laws.specs.Machines.{AllWithin as AllInside, GoesOn}
 use Rattle.cl_reduction_laws.specs.Clusters.{IsWithin, Search, State, awake_cluster, cluster_machine}
-use Rattle.cl_reduction_laws.specs.Settled.{AllWithin}
+use Rattle.cl_reduction_laws.specs.Settled.{AllWithin, FindsClaim}
 use Rattle.cl_reduction_laws.proofs.Awake.{map_set, mapped}
 use Rattle.cl_reduction_laws.proofs.Good.{Gone, IsOwn, alone, called, gone, made_within}
 use Rattle.cl_reduction_laws.proofs.Machine.{IsSame, each_itself, same_alike, taken}
@@ -50,6 +53,19 @@ own_or_vain c r Ask.Plain own in_vain = in_vain
 own_or_vain c r Ask.Local own in_vain = in_vain
 own_or_vain c r Ask.Idle own in_vain = in_vain
 own_or_vain c r _ own in_vain = own
+
+-- a claim that finds its message isn't told that nothing is there
+pub claims_or_vain : (c : Cluster) (r : ℕ) (q : Request) → reply_in c.journal r q ≡ NotYet → FindsClaim c r (Ask.Hub q) → ⊥
+claims_or_vain c r (request.Claim comm source tag) none found = found none
+claims_or_vain c r (request.Send sync comm dest tag bytes) none found = found
+claims_or_vain c r (request.Recv now comm source tag) none found = found
+claims_or_vain c r (request.Collect n) none found = found
+claims_or_vain c r (request.Finished n) none found = found
+claims_or_vain c r (request.Probe comm source tag) none found = found
+claims_or_vain c r (request.Claimed now n) none found = found
+claims_or_vain c r (request.All ns) none found = found
+claims_or_vain c r (request.Init sends comm peer tag parts size) none found = found
+claims_or_vain c r (request.Cut link) none found = found
 
 idle_or_hub : (q : Request) → Ask.Idle ≡ Ask.Hub q → ⊥
 idle_or_hub q e = absurd (cc)

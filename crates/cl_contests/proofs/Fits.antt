@@ -1,8 +1,10 @@
 -- Clusters that are fit for all ranks to be let go, by what is told of each rank.
-use Rattle.std.specs.Prelude.{ℕ, ◌+◌, ◌<◌, ◌≡◌, Bool, true, List, length, option_map, slice_get, Option, Some, None}
-use Rattle.std.proofs.Common.{refl, sym, ap, ◌∙◌, subst}
+use Rattle.std.specs.Prelude.{ℕ, ◌+◌, ◌<◌, ◌≡◌, ◌⊎◌, Bool, true, List, length, option_map, slice_get, Option, Some, None}
+use Rattle.std.proofs.Common.{inl, inr, refl, sym, ap, ◌∙◌, subst}
 use Rattle.std.proofs.lemmas.Option.{same_Some, slice_get-map}
 use Rattle.rv_image_types.specs.declared.images.ImageParts.{ImageParts}
+use Rattle.mp_types.specs.declared.requests.Request.{Request}
+use Rattle.mp_types.specs.declared.requests.Request.TheVariants as request
 use Rattle.mp_hub.specs.Hub.{HubView}
 use Rattle.cl_state.specs.declared.asking.Ask.{Ask}
 use Rattle.cl_state.specs.declared.asking.Doing.{Doing}
@@ -16,18 +18,24 @@ use Rattle.cl_machine.specs.Cluster.{Cluster}
 use Rattle.cl_order_laws.specs.Closed.{IsInVain, Node}
 use Rattle.cl_reduction_laws.specs.Below.{AskWithin}
 use Rattle.cl_reduction_laws.specs.Patterns.{IsAllowed, pattern_of_ask}
-use Rattle.cl_reduction_laws.specs.Settled.{IsFit}
+use Rattle.cl_reduction_laws.specs.Settled.{FindsClaim, IsFit}
 use Rattle.cl_moves.specs.Standing.{StandsAt}
 use Rattle.cl_moves.specs.declared.standing.Standing.{Standing}
 use Rattle.cl_contests.specs.declared.patterns.AskedBy.{AskedBy}
 use Rattle.cl_contests.specs.Fits.{IsFitRank}
 use Rattle.cl_contests.specs.Kept.{patterns_of, search_of, wild_of}
 
+-- a claim that isn't in vain finds its message
+pub claim_found : (c : Cluster) (r : ℕ) (q : Request) {comm : ℕ} {source tag : Option ℕ} → q ≡ request.Claim comm source tag
+    → (IsInVain c r (Ask.Hub q) → ⊥) → FindsClaim c r (Ask.Hub q)
+claim_found c r q {comm} {source} {tag} is there =
+    subst (λ p. FindsClaim c r (Ask.Hub p)) (sym is) (λ none. there (subst (λ p. IsInVain c r (Ask.Hub p)) (sym is) none))
+
 -- by what its turn was found to be, and what it was found to ask
 pub fit_rank : (kept : List AskedBy) (c : Cluster) (r : ℕ) (rank : Rank) (d : Doing) (ask : Ask) (waits : Bool)
     → d ≡ doing rank.site (part_of rank 0) → waits ≡ waits_on d → ask ≡ asked rank 0
     → IsAllowed (patterns_of kept) r (pattern_of_ask waits ask) → AskWithin (wild_of kept) r ask → StandsAtCall rank 0
-    → (waits ≡ true → IsWaiting (mode_of rank 0) × IsInVain c r ask) → IsFitRank (search_of kept) c r rank
+    → (waits ≡ true → (IsWaiting (mode_of rank 0) × IsInVain c r ask) ⊎ FindsClaim c r ask) → IsFitRank (search_of kept) c r rank
 fit_rank kept c r rank d ask waits spelled anew asks allowed within stands rests =
     let known : waits ≡ waits_on (doing rank.site (part_of rank 0)) = anew ∙ ap waits_on spelled in
     record {
@@ -35,7 +43,10 @@ fit_rank kept c r rank d ask waits spelled anew asks allowed within stands rests
           (subst (λ a. IsAllowed (patterns_of kept) r (pattern_of_ask waits a)) asks allowed);
       within = subst (AskWithin (wild_of kept) r) asks within;
       rests = λ on.
-          let v = rests (known ∙ on) in (record { waits = v.0; on = on }, subst (IsInVain c r) asks v.1);
+          elim (rests (known ∙ on)) [
+            | inl v ↦ inl (record { waits = v.0; on = on }, subst (IsInVain c r) asks v.1)
+            | inr found ↦ inr (subst (FindsClaim c r) asks found)
+          ];
       stands = stands;
     }
 

@@ -7,8 +7,8 @@ use Rattle.std.proofs.lemmas.Option.{same_Some, slice_get_within}
 use Rattle.mp_types.specs.declared.requests.Request.{Request}
 use Rattle.mp_types.specs.declared.requests.Request.TheVariants as request
 use Rattle.mp_source_laws.specs.Alike.{Wild}
-use Rattle.mp_clash_laws.specs.Exchanges.{NoRace, NoSync}
-use Rattle.cl_reduction_laws.specs.Patterns.{IsAllowed, MayPass, Pattern as Asked, own, poll, receive, send, unlisted, wait}
+use Rattle.mp_clash_laws.specs.Exchanges.{BringsNothing, NoRace, NoSync}
+use Rattle.cl_reduction_laws.specs.Patterns.{IsAllowed, MayPass, Pattern as Asked, claim, own, poll, poll_of_sends, receive, send, unlisted, wait}
 use Rattle.cl_contests.specs.declared.patterns.AskedBy.{AskedBy}
 use Rattle.cl_contests.specs.declared.patterns.Pattern.{Pattern}
 use Rattle.cl_contests.specs.declared.patterns.Pattern.TheVariants as pattern
@@ -96,6 +96,8 @@ module _ (kept : List AskedBy) (r : ℕ) (q : Request) (a : AskedBy) where
       each receive same = absurd (cc)
       each wait same = absurd (cc)
       each poll same = absurd (cc)
+      each poll_of_sends same = absurd (cc)
+      each claim same = absurd (cc)
       each unlisted same = absurd (cc)
 
   pub passes_receive : a.pattern ≡ pattern.Receive → NoSync r q a.rank (request.Recv false 0 None None)
@@ -108,6 +110,35 @@ module _ (kept : List AskedBy) (r : ℕ) (q : Request) (a : AskedBy) where
       each (send its to other) same = absurd (cc)
       each wait same = absurd (cc)
       each poll same = absurd (cc)
+      each poll_of_sends same = absurd (cc)
+      each claim same = absurd (cc)
+      each unlisted same = absurd (cc)
+
+  pub passes_poll : a.pattern ≡ pattern.Poll → BringsNothing q a.rank (request.Collect 0) → MayPassKept kept r q a
+  passes_poll is nothing = by pattern.Poll is each
+    where
+      each : (p : Asked) → is_pattern pattern.Poll p ≡ true → MayPass (wild_of kept) r q a.rank p
+      each poll same = nothing
+      each own same = absurd (cc)
+      each (send its to other) same = absurd (cc)
+      each receive same = absurd (cc)
+      each wait same = absurd (cc)
+      each poll_of_sends same = absurd (cc)
+      each claim same = absurd (cc)
+      each unlisted same = absurd (cc)
+
+  pub passes_poll_of_sends : a.pattern ≡ pattern.PollOfSends → BringsNothing q a.rank (request.Finished 0)
+      → MayPassKept kept r q a
+  passes_poll_of_sends is nothing = by pattern.PollOfSends is each
+    where
+      each : (p : Asked) → is_pattern pattern.PollOfSends p ≡ true → MayPass (wild_of kept) r q a.rank p
+      each poll_of_sends same = nothing
+      each own same = absurd (cc)
+      each (send its to other) same = absurd (cc)
+      each receive same = absurd (cc)
+      each wait same = absurd (cc)
+      each poll same = absurd (cc)
+      each claim same = absurd (cc)
       each unlisted same = absurd (cc)
 
   pub passes_source : (comm : ℕ) → a.pattern ≡ pattern.AnySource comm → MayPassKept kept r q a
@@ -157,6 +188,8 @@ module _ (kept : List AskedBy) (r : ℕ) (q : Request) (n : ℕ) (before : MayPa
       of (send sync dest comm) allowed = found (send sync dest comm) allowed
       of receive allowed = found receive allowed
       of poll allowed = found poll allowed
+      of poll_of_sends allowed = found poll_of_sends allowed
+      of claim allowed = found claim allowed
 
 -- ---- patterns that are added
 
@@ -179,19 +212,39 @@ wanted_is (pattern.Send sync dest comm) (pattern.Send its to other) is =
     let within = eqb-true other comm places.1 in λ i. pattern.Send (mode i) (there i) (within i)
 wanted_is (pattern.Send sync dest comm) pattern.Receive is = absurd (cc)
 wanted_is (pattern.Send sync dest comm) pattern.Poll is = absurd (cc)
+wanted_is (pattern.Send sync dest comm) pattern.PollOfSends is = absurd (cc)
+wanted_is (pattern.Send sync dest comm) pattern.Claim is = absurd (cc)
 wanted_is (pattern.Send sync dest comm) (pattern.AnySource other) is = absurd (cc)
-wanted_is pattern.Receive pattern.Receive is = refl
 wanted_is pattern.Receive (pattern.Send its to other) is = absurd (cc)
+wanted_is pattern.Receive pattern.Receive is = refl
 wanted_is pattern.Receive pattern.Poll is = absurd (cc)
+wanted_is pattern.Receive pattern.PollOfSends is = absurd (cc)
+wanted_is pattern.Receive pattern.Claim is = absurd (cc)
 wanted_is pattern.Receive (pattern.AnySource other) is = absurd (cc)
-wanted_is pattern.Poll pattern.Poll is = refl
 wanted_is pattern.Poll (pattern.Send its to other) is = absurd (cc)
 wanted_is pattern.Poll pattern.Receive is = absurd (cc)
+wanted_is pattern.Poll pattern.Poll is = refl
+wanted_is pattern.Poll pattern.PollOfSends is = absurd (cc)
+wanted_is pattern.Poll pattern.Claim is = absurd (cc)
 wanted_is pattern.Poll (pattern.AnySource other) is = absurd (cc)
-wanted_is (pattern.AnySource comm) (pattern.AnySource other) is = ap (λ c. pattern.AnySource c) (eqb-true other comm is)
+wanted_is pattern.PollOfSends (pattern.Send its to other) is = absurd (cc)
+wanted_is pattern.PollOfSends pattern.Receive is = absurd (cc)
+wanted_is pattern.PollOfSends pattern.Poll is = absurd (cc)
+wanted_is pattern.PollOfSends pattern.PollOfSends is = refl
+wanted_is pattern.PollOfSends pattern.Claim is = absurd (cc)
+wanted_is pattern.PollOfSends (pattern.AnySource other) is = absurd (cc)
+wanted_is pattern.Claim (pattern.Send its to other) is = absurd (cc)
+wanted_is pattern.Claim pattern.Receive is = absurd (cc)
+wanted_is pattern.Claim pattern.Poll is = absurd (cc)
+wanted_is pattern.Claim pattern.PollOfSends is = absurd (cc)
+wanted_is pattern.Claim pattern.Claim is = refl
+wanted_is pattern.Claim (pattern.AnySource other) is = absurd (cc)
 wanted_is (pattern.AnySource comm) (pattern.Send its to other) is = absurd (cc)
 wanted_is (pattern.AnySource comm) pattern.Receive is = absurd (cc)
 wanted_is (pattern.AnySource comm) pattern.Poll is = absurd (cc)
+wanted_is (pattern.AnySource comm) pattern.PollOfSends is = absurd (cc)
+wanted_is (pattern.AnySource comm) pattern.Claim is = absurd (cc)
+wanted_is (pattern.AnySource comm) (pattern.AnySource other) is = ap (λ c. pattern.AnySource c) (eqb-true other comm is)
 
 here : (xs : List AskedBy) (i : ℕ) (none : AskedBy) → i < length xs → slice_get xs i ≡ Some (get_or xs i none)
 here [] i none low = absurd (omega (arith, low))

@@ -3,7 +3,7 @@ use Rattle.std.specs.Prelude.{ℕ, ◌==◌, ◌&&◌, Bool, true, false, not, L
 use Rattle.std.specs.List.{list_any}
 use Rattle.mp_source_laws.specs.Alike.{Wild}
 use Rattle.cl_reduction_laws.specs.Clusters.{Search}
-use Rattle.cl_reduction_laws.specs.Patterns.{Pattern as Asked, Patterns, poll, receive, send}
+use Rattle.cl_reduction_laws.specs.Patterns.{Pattern as Asked, Patterns, claim, poll, poll_of_sends, receive, send}
 use Rattle.cl_contests.specs.declared.patterns.AskedBy.{AskedBy}
 use Rattle.cl_contests.specs.declared.patterns.Pattern.{Pattern}
 use Rattle.cl_contests.specs.declared.patterns.Pattern.TheVariants as pattern
@@ -17,6 +17,8 @@ is_pattern (pattern.Send sync dest comm) (send its to other) =
     is_same_bool sync its && ((dest == to) && (comm == other))
 is_pattern pattern.Receive receive = true
 is_pattern pattern.Poll poll = true
+is_pattern pattern.PollOfSends poll_of_sends = true
+is_pattern pattern.Claim claim = true
 is_pattern _ _ = false
 
 -- it is a receive or a probe of any source in this communicator

@@ -2,7 +2,7 @@
 use Rattle.std.specs.Prelude.{ℕ, ◌≡◌, ◌==◌, ◌&&◌, Bool, true, List}
 use Rattle.std.specs.List.{list_any}
 use Rattle.mp_types.specs.declared.requests.Request.{Request}
-use Rattle.cl_reduction_laws.specs.Patterns.{MayPass, Pattern as Asked, poll, receive, send}
+use Rattle.cl_reduction_laws.specs.Patterns.{MayPass, Pattern as Asked, claim, poll, poll_of_sends, receive, send}
 use Rattle.cl_contests.specs.declared.patterns.AskedBy.{AskedBy}
 use Rattle.cl_contests.specs.declared.patterns.Pattern.{Pattern}
 use Rattle.cl_contests.specs.declared.patterns.Pattern.TheVariants as pattern
@@ -13,6 +13,8 @@ abbrev pub is_wanted : Pattern → Pattern → Bool
 is_wanted (pattern.Send sync dest comm) kept = is_pattern kept (send sync dest comm)
 is_wanted pattern.Receive kept = is_pattern kept receive
 is_wanted pattern.Poll kept = is_pattern kept poll
+is_wanted pattern.PollOfSends kept = is_pattern kept poll_of_sends
+is_wanted pattern.Claim kept = is_pattern kept claim
 is_wanted (pattern.AnySource comm) kept = is_any_source kept comm
 
 -- it is one of the rank's patterns

@@ -1,6 +1,6 @@
 //! Clusters at which all ranks are let go.
 
-ghost use Rattle.std.specs.Prelude.{◌≡◌, ◌<◌, ◌+◌, IfOk, IsTrue, length, true, vec_len};
+ghost use Rattle.std.specs.Prelude.{◌≡◌, ◌⊎◌, ◌<◌, ◌+◌, IfOk, IsTrue, length, true, vec_len};
 ghost use Rattle.rv_image_types.specs.declared.images.ImageParts.{ImageParts};
 ghost use Rattle.cl_state.specs.Room.{rank_of};
 ghost use Rattle.cl_state_laws.specs.Awake.{StandsAtCall};
@@ -8,6 +8,7 @@ ghost use Rattle.cl_state_laws.specs.Vain.{IsWaiting, mode_of};
 ghost use Rattle.cl_machine.specs.Cluster.{Cluster};
 ghost use Rattle.cl_replay.specs.States.{ClusterStandsFor};
 ghost use Rattle.cl_order_laws.specs.Closed.{IsInVain};
+ghost use Rattle.cl_reduction_laws.specs.Settled.{FindsClaim};
 ghost use Rattle.cl_contests.specs.Kept.{search_of};
 ghost use Rattle.cl_contests.specs.Fits.{IsFitRank};
 ghost use Rattle.cl_contests.specs.Going.{TellsFit};
@@ -18,6 +19,7 @@ use cl_moves::{MoveFault, Standing};
 use cl_replay::ClusterState;
 use cl_state::{Ask, RankState, is_ecall};
 use mp_alike::WholeHub;
+use mp_types::Request;
 use rv_hart::{Mode, Wait};
 use std::alloc::AllocError;
 
@@ -59,13 +61,28 @@ fn is_in_vain(state: &ClusterState, rank: u8, ask: &Ask) -> bool
     }
 }
 
-/// Whether the rank's first hart waits, and in vain, if its turn is made anew where nothing is there.
+/// Whether what is asked is a claim that finds its message.
+fn finds_claim(state: &ClusterState, rank: u8, ask: &Ask) -> bool
+    ensures { IsTrue result → (image : ImageParts) (cluster : Cluster) → ClusterStandsFor image state.now cluster
+        → FindsClaim cluster rank ask.now }
+{
+    match ask {
+        Ask::Hub(request) => match request {
+            Request::Claim { .. } => !state.hub.asks_in_vain(rank, request),
+            _ => false,
+        },
+        _ => false,
+    }
+}
+
+/// Whether the rank's first hart waits, and in vain, if its turn is made anew where nothing is there, or it finds what it
+/// claims.
 fn rests_if(state: &ClusterState, rank: u8, own: &RankState, waits: bool, ask: &Ask) -> bool
     requires { 0 < vec_len own.now.harts }
     ensures { IsTrue result → (image : ImageParts) (cluster : Cluster) → ClusterStandsFor image state.now cluster
-        → waits ≡ true → IsWaiting (mode_of (rank_of own.now) 0) × IsInVain cluster rank ask.now }
+        → waits ≡ true → (IsWaiting (mode_of (rank_of own.now) 0) × IsInVain cluster rank ask.now) ⊎ FindsClaim cluster rank ask.now }
 {
-    if !waits {
+    if !waits || finds_claim(state, rank, ask) {
         return true;
     }
     if !is_waiting(own) {

@@ -3,10 +3,10 @@
 ghost use Rattle.std.specs.Prelude.{◌≡◌, ◌≢◌, ◌↔◌, Bool, IfOk, IsTrue, None, OnOk, true, [], cond, false, vec_len, ℕ};
 ghost use Rattle.mp_types.specs.declared.requests.Request.TheVariants as calls;
 ghost use Rattle.mp_source_laws.specs.Laws.{AsksFrom, AsksWithin};
-ghost use Rattle.mp_clash_laws.specs.Exchanges.{IsPosting, NoRace, NoSync};
+ghost use Rattle.mp_clash_laws.specs.Exchanges.{BringsNothing, IsPosting, NoRace, NoSync};
 ghost use Rattle.cl_reduction_laws.specs.Below.{AskWithin};
 ghost use Rattle.cl_reduction_laws.specs.Patterns.{IsAllowed, MayPass, Pattern as Asked, pattern_of_ask, pattern_of_request};
-ghost use Rattle.cl_reduction_laws.specs.Patterns.{poll, wait};
+ghost use Rattle.cl_reduction_laws.specs.Patterns.{poll, poll_of_sends, wait};
 ghost use Rattle.cl_contests.specs.Kept.{is_same_bool, patterns_of, wild_of};
 ghost use Rattle.cl_contests.specs.Passing.{Keeps, MayPassKept, has_pattern, is_wanted as is_wanted_of};
 
@@ -21,8 +21,12 @@ pub enum Pattern {
     Send { sync: bool, dest: u8, comm: u8 },
     /// A receive.
     Receive,
-    /// A poll: where nothing is there the rank goes on.
+    /// A poll of a receive or a look for a message: where nothing is there the rank goes on.
     Poll,
+    /// A poll of a synchronous send, or of several posts, which may name one: the same.
+    PollOfSends,
+    /// A claim, or the receive of a message that was claimed.
+    Claim,
     /// A receive or a probe of any source in this communicator.
     AnySource { comm: u8 },
 }
@@ -55,6 +59,8 @@ fn is_wanted(wanted: Pattern, kept: Pattern) -> bool
         ) => is_same_mode(sync, its) && (dest == to && comm == other),
         (Pattern::Receive, Pattern::Receive) => true,
         (Pattern::Poll, Pattern::Poll) => true,
+        (Pattern::PollOfSends, Pattern::PollOfSends) => true,
+        (Pattern::Claim, Pattern::Claim) => true,
         (Pattern::AnySource { comm: other }, Pattern::AnySource { comm }) => comm == other,
         _ => false,
     }
@@ -85,6 +91,18 @@ fn sends_no_sync(request: &Request, other: u8) -> bool
     match request {
         Request::Send { sync, dest, .. } => !*sync || *dest != other,
         Request::Recv { .. } => true,
+        _ => false,
+    }
+}
+
+/// Whether the call brings nothing that the other rank could see in a poll: it is a send to a third rank, or a receive and
+/// the poll is of no send.
+fn brings_nothing(request: &Request, other: u8, of_sends: bool) -> bool
+    ensures { IsTrue result → BringsNothing request.now other (cond of_sends (calls.Finished 0) (calls.Collect 0)) }
+{
+    match request {
+        Request::Send { dest, .. } => *dest != other,
+        Request::Recv { .. } => !of_sends,
         _ => false,
     }
 }
@@ -126,6 +144,13 @@ impl Patterns {
         waits || self.has(rank, Pattern::Poll)
     }
 
+    /// Whether it may ask so of posts that may be synchronous sends.
+    fn allow_poll_of_sends(&self, rank: u8, waits: bool) -> bool
+        ensures { IsTrue result → IsAllowed (patterns_of self.now.kept.items) rank (cond waits wait poll_of_sends) }
+    {
+        waits || self.has(rank, Pattern::PollOfSends)
+    }
+
     /// Whether the rank may ask in the communicator for a message of this source, or of any.
     fn allow_source(&self, rank: u8, comm: u8, source: Option<u8>) -> bool
         ensures { IsTrue result → AsksFrom (wild_of self.now.kept.items) rank comm source }
@@ -162,9 +187,14 @@ impl Patterns {
             Request::Probe { comm, source, .. } => {
                 self.allow_poll(rank, waits) && self.allow_source(rank, *comm, *source)
             }
-            Request::Collect { .. } | Request::Finished { .. } | Request::All { .. } => {
-                self.allow_poll(rank, waits)
+            Request::Collect { .. } => self.allow_poll(rank, waits),
+            Request::Finished { .. } | Request::All { .. } => {
+                self.allow_poll_of_sends(rank, waits)
             }
+            Request::Claim { comm, source, .. } => {
+                self.has(rank, Pattern::Claim) && self.allow_source(rank, *comm, *source)
+            }
+            Request::Claimed { .. } => self.has(rank, Pattern::Claim),
             _ => false,
         }
     }
@@ -208,7 +238,9 @@ impl Patterns {
                     && receives_no_sync(rank, request, sync, dest)
             }
             Pattern::Receive => sends_no_sync(request, other.rank),
-            Pattern::Poll => false,
+            Pattern::Poll => brings_nothing(request, other.rank, false),
+            Pattern::PollOfSends => brings_nothing(request, other.rank, true),
+            Pattern::Claim => false,
             Pattern::AnySource { .. } => true,
         }
     }
@@ -249,6 +281,16 @@ impl Patterns {
             return Ok(());
         }
         self.keep(rank, Pattern::Poll)
+    }
+
+    fn add_poll_of_sends(&mut self, rank: u8, waits: bool) -> Result<(), AllocError>
+        ensures allowed { OnOk result (IsAllowed (patterns_of self.new.kept.items) rank (cond waits wait poll_of_sends)) }
+        ensures keeps { OnOk result (Keeps self.old.kept.items self.new.kept.items) }
+    {
+        if waits {
+            return Ok(());
+        }
+        self.keep(rank, Pattern::PollOfSends)
     }
 
     fn add_source(&mut self, rank: u8, comm: u8, source: Option<u8>) -> Result<(), AllocError>
@@ -292,15 +334,28 @@ impl Patterns {
                 self.add_source(rank, *comm, *source)?;
                 Ok(true)
             }
-            Request::Collect { .. } | Request::Finished { .. } | Request::All { .. } => {
+            Request::Collect { .. } => {
                 self.add_poll(rank, waits)?;
+                Ok(true)
+            }
+            Request::Finished { .. } | Request::All { .. } => {
+                self.add_poll_of_sends(rank, waits)?;
+                Ok(true)
+            }
+            Request::Claim { comm, source, .. } => {
+                self.keep(rank, Pattern::Claim)?;
+                self.add_source(rank, *comm, *source)?;
+                Ok(true)
+            }
+            Request::Claimed { .. } => {
+                self.keep(rank, Pattern::Claim)?;
                 Ok(true)
             }
             _ => Ok(false),
         }
     }
 
-    /// Adds what the rank asks, unless it is there. False where it has no pattern: claims and partitions.
+    /// Adds what the rank asks, unless it is there. False where it has no pattern: partitions.
     pub fn add(&mut self, rank: u8, waits: bool, ask: &Ask) -> Result<bool, AllocError>
         ensures allowed { IfOk result (λ listed. IsTrue listed → IsAllowed (patterns_of self.new.kept.items) rank
             (pattern_of_ask waits ask.now)) }

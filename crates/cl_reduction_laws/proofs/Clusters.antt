@@ -11,7 +11,7 @@ use Rattle.mp_wait_laws.proofs.Fresh.{Laid}
 use Rattle.mp_wait_laws.proofs.Waits.{laid_after}
 use Rattle.mp_alike_laws.specs.Renaming.{no_renaming}
 use Rattle.mp_source_laws.specs.Alike.{Wild}
-use Rattle.mp_clash_laws.specs.Exchanges.{IsPosting, NoRace, NoSync}
+use Rattle.mp_clash_laws.specs.Exchanges.{BringsNothing, IsLook, IsPosting, MayExchange, NoRace, NoSync}
 use Rattle.cl_journal.specs.Journal.{calls_of}
 use Rattle.cl_journal.specs.declared.entries.Entry.{Entry}
 use Rattle.cl_state.specs.declared.asking.Answer.TheVariants as answer
@@ -49,7 +49,7 @@ use Rattle.cl_reduction_laws.proofs.Awake.{map_set, mapped}
 use Rattle.cl_reduction_laws.proofs.Good.{Gone, IsMade, IsOwn, alone, at_start, called, goes_of, gone, good_after, grows_by, made_within, plans_of}
 use Rattle.cl_reduction_laws.proofs.Machine.{IsSame, each_itself, Taken, same_alike, taken, turn_by}
 use Rattle.cl_reduction_laws.proofs.Follows.{follows, weight_too, within_too}
-use Rattle.cl_reduction_laws.proofs.First.{IsLook, IsTold, is_there, is_told, not_yet, of_ready, of_refused, refused}
+use Rattle.cl_reduction_laws.proofs.First.{IsTold, is_there, is_told, no_collect, no_finish, no_probe, no_several, not_yet, of_ready, of_refused, of_vain, refused}
 use Rattle.cl_reduction_laws.proofs.Exchanged.{by_exchange, by_own, by_posts, by_sure, kept_rank, swapped_sure}
 
 -- ---- what may pass, of the very calls
@@ -214,38 +214,49 @@ module _ (search : Search) where
                   also is race sync),
             )
 
-        looks : w ≡ true → IsTold h s p → Result
-        looks on (not_yet is) =
-            inl (same_alike search.wild a.cluster b.cluster (a.good).boxes
-            (vain s a.cluster b.cluster t.rank p t.there on also k is))
-        looks on (is_there is) =
+        exchanges : MayExchange search.wild h r q s p → Result
+        exchanges v =
             inr (
               kept,
               swaps (λ c two.
                   by_exchange search r s a b c apart sure.rank t.rank sure.there t.there sure.within within room one two q asks post p
-                  also (of_ready search.wild a.cluster r s q p away few laid_then is)),
-            )
-        looks on (refused is) =
-            inr (
-              kept,
-              swaps (λ c two.
-                  by_exchange search r s a b c apart sure.rank t.rank sure.there t.there sure.within within room one two q asks post p
-                  also (of_refused search.wild a.cluster r s q p away few post is)),
+                  also v),
             )
 
-      -- a call that goes on where nothing is there may not be passed
+        -- where nothing is there it waits on, and is left as it was; or the call of r brings it nothing
+        looks : (w ≡ true) ⊎ BringsNothing q s p → IsLook p → IsTold h s p → Result
+        looks (inl on) is (not_yet none) =
+            inl (same_alike search.wild a.cluster b.cluster (a.good).boxes
+            (vain s a.cluster b.cluster t.rank p t.there on also k none))
+        looks (inr nothing) is (not_yet none) = exchanges (of_vain search.wild a.cluster r s q p away few post is nothing none)
+        looks can is (is_there ready) = exchanges (of_ready search.wild a.cluster r s q p away few laid_then ready)
+        looks can is (refused bad) = exchanges (of_refused search.wild a.cluster r s q p away few post bad)
+
+      -- a call that goes on where nothing is there may be passed by what brings it nothing
       look_by : (p : Request) (also : asked t.rank (hart s) ≡ Ask.Hub p) (k : Called s (hart s) a.cluster b.cluster t.rank p)
           → IsLook p → (v : Bool) → w ≡ v → Result
-      look_by p also k is true on = looks p also k on (is_told h s p is)
+      look_by p also k is true on = looks p also k (inl on) is (is_told h s p is)
       look_by (request.Collect n) also k is false off =
-          absurd (subst (λ v. MayPass search.wild r q s (pattern_of_request v (request.Collect n))) off (may (request.Collect n) also k))
+          looks (request.Collect n) also k
+          (inr (no_collect q s n post
+          (subst (λ v. MayPass search.wild r q s (pattern_of_request v (request.Collect n))) off (may (request.Collect n) also k))))
+          tt (is_told h s (request.Collect n) tt)
       look_by (request.Finished n) also k is false off =
-          absurd (subst (λ v. MayPass search.wild r q s (pattern_of_request v (request.Finished n))) off (may (request.Finished n) also k))
+          looks (request.Finished n) also k
+          (inr (no_finish q s n post
+          (subst (λ v. MayPass search.wild r q s (pattern_of_request v (request.Finished n))) off (may (request.Finished n) also k))))
+          tt (is_told h s (request.Finished n) tt)
       look_by (request.All ns) also k is false off =
-          absurd (subst (λ v. MayPass search.wild r q s (pattern_of_request v (request.All ns))) off (may (request.All ns) also k))
+          looks (request.All ns) also k
+          (inr (no_several q s ns post
+          (subst (λ v. MayPass search.wild r q s (pattern_of_request v (request.All ns))) off (may (request.All ns) also k))))
+          tt (is_told h s (request.All ns) tt)
       look_by (request.Probe comm source tag) also k is false off =
-          absurd (subst (λ v. MayPass search.wild r q s (pattern_of_request v (request.Probe comm source tag))) off
-          (may (request.Probe comm source tag) also k))
+          looks (request.Probe comm source tag) also k
+          (inr (no_probe q s comm source tag post
+          (subst (λ v. MayPass search.wild r q s (pattern_of_request v (request.Probe comm source tag))) off
+          (may (request.Probe comm source tag) also k))))
+          tt (is_told h s (request.Probe comm source tag) tt)
       look_by _ also k is false off = absurd is
 
       call_by : (p : Request) → asked t.rank (hart s) ≡ Ask.Hub p → Called s (hart s) a.cluster b.cluster t.rank p → Result
@@ -259,8 +270,8 @@ module _ (search : Search) where
       call_by (request.Finished n) also k = look_by (request.Finished n) also k tt w refl
       call_by (request.All ns) also k = look_by (request.All ns) also k tt w refl
       call_by (request.Probe comm source tag) also k = look_by (request.Probe comm source tag) also k tt w refl
-      call_by (request.Claim comm source tag) also k = absurd (allowed (request.Claim comm source tag) also k)
-      call_by (request.Claimed now n) also k = absurd (allowed (request.Claimed now n) also k)
+      call_by (request.Claim comm source tag) also k = absurd (may (request.Claim comm source tag) also k)
+      call_by (request.Claimed now n) also k = absurd (may (request.Claimed now n) also k)
       call_by (request.Init sends comm peer tag parts size) also k =
           absurd (allowed (request.Init sends comm peer tag parts size) also k)
       call_by (request.Cut link) also k = absurd (allowed (request.Cut link) also k)

@@ -1,5 +1,5 @@
 -- What may go first goes before a turn of another rank.
-use Rattle.std.proofs.Common.{◌≡◌, ◌∙◌, ℕ, zero, suc, ◌<◌, refl, sym, ap, subst, Bool, true, false, length, Option, Some, None}
+use Rattle.std.proofs.Common.{◌≡◌, ◌∙◌, ℕ, zero, suc, ◌<◌, refl, sym, ap, subst, Bool, true, false, List, length, Option, Some, None}
 use Rattle.std.specs.Prelude.{◌≢◌, ◌&&◌, cond}
 use Rattle.std.specs.List.{list_all}
 use Rattle.rv_hart.specs.declared.state.Mode.{Mode}
@@ -19,7 +19,8 @@ use Rattle.mp_wait_laws.proofs.Waits.{laid_after}
 use Rattle.mp_alike_laws.specs.Renaming.{no_renaming}
 use Rattle.mp_source_laws.specs.Alike.{AlikeHubs, Wild}
 use Rattle.mp_source_laws.proofs.Likeness.{itself as hub_itself}
-use Rattle.mp_clash_laws.specs.Exchanges.{IsPosting, IsRefused, MayExchange, behind, reply_by}
+use Rattle.mp_clash_laws.specs.Exchanges.{BringsNothing, IsLook, IsPosting, IsRefused, MayExchange, behind, reply_by}
+use Rattle.mp_clash_laws.proofs.Looks.{vain_look_law}
 use Rattle.mp_clash_laws.proofs.Refused.{refused_law}
 use Rattle.cl_journal.specs.Journal.{calls_of}
 use Rattle.cl_state.specs.declared.asking.Ask.{Ask}
@@ -63,14 +64,6 @@ unfolding doing
 polls_on rank hart post is = ap (λ m. waits_on (doing_in m rank.site (part_of rank hart))) is
 
 -- ---- what a call that collects or looks is told
-
--- sends and receives post, and these don't
-abbrev pub IsLook : Request → Type 0
-IsLook (request.Collect n) = Unit {0}
-IsLook (request.Finished n) = Unit {0}
-IsLook (request.All ns) = Unit {0}
-IsLook (request.Probe comm source tag) = Unit {0}
-IsLook _ = ⊥
 
 pub data IsTold (h : HubView) (s : ℕ) (p : Request) : Type 0 where
   is_there : IsReady p (outcome h s p).0 → IsTold h s p
@@ -174,3 +167,37 @@ module _ (wild : Wild) (c : Cluster) (r s : ℕ) (q p : Request) (apart : r ≢ 
       exchange_of wild h r q s p (ap (λ (o : Reply × HubView). (outcome o.1 r q).0) (sym k.0))
       (ap (λ (o : Reply × HubView). o.0) k.1 ∙ sym (ap (λ (o : Reply × HubView). o.0) k.0))
       (ap (λ (o : Reply × HubView). (outcome o.1 r q).1) k.0 ∙ sym (ap (λ (o : Reply × HubView). o.1) k.1))
+
+  -- what isn't there isn't there either way
+  pub of_vain : IsPosting q → IsLook p → BringsNothing q s p → (outcome h s p).0 ≡ reply.NotYet → MayExchange wild h r q s p
+  of_vain posts look nothing is =
+      let k = vain_look_law c.journal.links (calls_of c.journal.entries) r s q p apart posts look nothing is in
+      exchange_of wild h r q s p (ap (λ (o : Reply × HubView). (outcome o.1 r q).0) (sym k.0))
+      (ap (λ (o : Reply × HubView). o.0) k.1 ∙ sym (ap (λ (o : Reply × HubView). o.0) k.0))
+      (ap (λ (o : Reply × HubView). (outcome o.1 r q).1) k.0 ∙ sym (ap (λ (o : Reply × HubView). o.1) k.1))
+
+-- ---- polls that a send or a receive brings nothing, of the very calls
+
+pub no_collect : (q : Request) (s n : ℕ) → IsPosting q → BringsNothing q s (request.Collect 0)
+    → BringsNothing q s (request.Collect n)
+no_collect (request.Send sync comm dest tag bytes) s n is may = may
+no_collect (request.Recv now comm source tag) s n is may = tt
+no_collect _ s n is may = absurd is
+
+pub no_probe : (q : Request) (s comm : ℕ) (source tag : Option ℕ) → IsPosting q → BringsNothing q s (request.Collect 0)
+    → BringsNothing q s (request.Probe comm source tag)
+no_probe (request.Send sync k dest t bytes) s comm source tag is may = may
+no_probe (request.Recv now k from t) s comm source tag is may = tt
+no_probe _ s comm source tag is may = absurd is
+
+pub no_finish : (q : Request) (s n : ℕ) → IsPosting q → BringsNothing q s (request.Finished 0)
+    → BringsNothing q s (request.Finished n)
+no_finish (request.Send sync comm dest tag bytes) s n is may = may
+no_finish (request.Recv now comm source tag) s n is may = absurd may
+no_finish _ s n is may = absurd is
+
+pub no_several : (q : Request) (s : ℕ) (ns : List ℕ) → IsPosting q → BringsNothing q s (request.Finished 0)
+    → BringsNothing q s (request.All ns)
+no_several (request.Send sync comm dest tag bytes) s ns is may = may
+no_several (request.Recv now comm source tag) s ns is may = absurd may
+no_several _ s ns is may = absurd is

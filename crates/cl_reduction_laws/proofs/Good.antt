@@ -1,7 +1,8 @@
 -- What holds of the loaded cluster lasts.
 use Rattle.std.proofs.Common.{◌≡◌, ◌∙◌, ℕ, suc, ◌+◌, ◌≤◌, refl, sym, ap, subst, arith, inl, inr, Bool, true, false, List, length, Option, Some, None}
-use Rattle.std.specs.Prelude.{cond, nat_lt, ◌&&◌}
+use Rattle.std.specs.Prelude.{cond, nat_lt, not, ◌&&◌}
 use Rattle.std.specs.List.{list_all, slice_get, slice_set}
+use Rattle.std.specs.Option.{is_some}
 use Rattle.std.proofs.lemmas.Bool.{cases_eq}
 use Rattle.mp_types.specs.declared.codes.Code.TheVariants as code
 use Rattle.mp_types.specs.declared.messages.Envelope.{Envelope}
@@ -15,17 +16,20 @@ use Rattle.mp_match.specs.declared.posts.Post.{Post}
 use Rattle.mp_match.specs.declared.posts.Post.TheVariants as post
 use Rattle.mp_match.specs.declared.posts.Selection.{Selection}
 use Rattle.mp_match.specs.declared.posts.Sent.{Sent}
-use Rattle.mp_match.specs.Board.{Board, collect, held_count, is_standard, is_send_of, line_of, receive_posted, send_posted}
+use Rattle.mp_match.specs.Board.{Board, collect, held_count, is_standard, is_send_of, line_of, probed, receive_posted, send_posted}
 use Rattle.mp_match.specs.Pairs.{add}
 use Rattle.mp_match.proofs.Lines.{Look, is_given, is_new, is_old, look}
-use Rattle.mp_hub.specs.Hub.{HubView, all_collected, all_got, are_distinct, got_or, is_complete, is_done, is_known, is_ready, may_collect, outcome, seen, selecting, sending, with_board}
-use Rattle.mp_probe.specs.Claims.{next_number}
+use Rattle.mp_hub.specs.Hub.{HubView, all_collected, all_got, are_distinct, claim_found, claimed_now, got_or, held, is_complete, is_done, is_known, is_ready, may_collect, outcome, seen, selecting, sending, with_board, with_claims}
+use Rattle.mp_probe.specs.Claims.{handle_if, may_receive, next_number, without_claim}
 use Rattle.mp_hub.proofs.BoardKept.{all_lines, collect_lines}
+use Rattle.mp_wait_laws.proofs.Fresh.{Laid}
 use Rattle.mp_wait_laws.proofs.Moves.{got_hub}
 use Rattle.mp_wait_laws.proofs.Sets.{get-set_other}
+use Rattle.mp_wait_laws.proofs.Waits.{laid_after}
 use Rattle.mp_source_laws.specs.Alike.{Wild}
 use Rattle.mp_source_laws.specs.Laws.{AsksFrom, AsksWithin}
 use Rattle.mp_clash_laws.specs.Exchanges.{WaitsWithin}
+use Rattle.cl_journal.specs.Journal.{calls_of}
 use Rattle.cl_state.specs.declared.asking.Answer.{Answer}
 use Rattle.cl_state.specs.declared.asking.Answer.TheVariants as answer
 use Rattle.cl_state.specs.declared.asking.Ask.{Ask}
@@ -56,14 +60,15 @@ use Rattle.cl_reduction_laws.specs.Patterns.{IsAllowed, Patterns, pattern_of, pa
 
 -- ---- the posts of a call
 
--- a call of these patterns makes no post, or a send, or the receive that it asks for
+-- a call of these patterns makes no post, or a send, or the receive that it asks for, or a claim
 pub data Makes (h : HubView) (r : ℕ) (q : Request) (new : HubView) : Type 0 where
   nothing : new.board.lines ≡ h.board.lines → Makes h r q new
   a_send : (s : Sent) → new.board.lines ≡ add h.board.lines (post.Send s) → Makes h r q new
   a_receive : (now : Bool) (comm : ℕ) (source tag : Option ℕ) → q ≡ request.Recv now comm source tag
       → new.board.lines ≡ add h.board.lines (post.Receive (selecting r comm source tag)) → Makes h r q new
+  a_claim : (what : Selection) → new.board.lines ≡ add h.board.lines (post.Claim what) → Makes h r q new
 
--- sends, receives, and calls that collect or look
+-- sends, receives, claims, and calls that collect or look
 abbrev pub IsListed : Request → Type 0
 IsListed (request.Send sync comm dest tag bytes) = Unit {0}
 IsListed (request.Recv now comm source tag) = Unit {0}
@@ -71,6 +76,8 @@ IsListed (request.Collect n) = Unit {0}
 IsListed (request.Finished n) = Unit {0}
 IsListed (request.All ns) = Unit {0}
 IsListed (request.Probe comm source tag) = Unit {0}
+IsListed (request.Claim comm source tag) = Unit {0}
+IsListed (request.Claimed now n) = Unit {0}
 IsListed _ = ⊥
 
 module _ (h : HubView) (r : ℕ) (q : Request) where
@@ -105,6 +112,22 @@ makes h r (request.All ns) is =
     (either h r _ (list_all (λ n. is_ready h r n) ns) (all_collected h (all_got r h.board ns)) (reply.NotYet, h)
     (nothing (all_lines r ns h.board)) (nothing refl))
     (nothing refl)
+makes h r (request.Claim comm source tag) is = go (probed h.board (post.Claim (selecting r comm source tag)))
+  where
+    go : (o : Option Envelope) → Makes h r (request.Claim comm source tag) (claim_found h (selecting r comm source tag) o).1
+    go None = nothing refl
+    go (Some e) = a_claim (selecting r comm source tag) refl
+makes h r (request.Claimed now n) is =
+    either h r (request.Claimed now n) (may_receive h.claims r n) (claimed_now k now n) (reply.Code code.BadMessage, h) (go now)
+    (nothing refl)
+  where
+    k : HubView
+    k = with_claims h (without_claim h.claims r n)
+
+    go : (now : Bool) → Makes h r (request.Claimed now n) (claimed_now k now n).1
+    go true =
+        nothing (ap (λ (x : HubView). x.board.lines) (got_hub k reply.NotYet (collect h.board n)) ∙ collect_lines h.board n)
+    go false = nothing refl
 makes h r _ is = absurd is
 
 -- ---- receives of any source
@@ -139,6 +162,8 @@ module _ (wild : Wild) (h : HubView) (within : WaitsWithin wild h) where
           (λ b e. subst (λ (s : Selection). AsksFrom wild s.rank s.comm s.source) (same_receive (selecting r comm source tag) b e)
           (subst (AsksWithin wild r) is asks))
           place a (ap (λ ms. slice_get ms place) (sym same) ∙ here)
+      go (a_claim what same) =
+          waits_in (post.Claim what) (λ b e. absurd (cc)) place a (ap (λ ms. slice_get ms place) (sym same) ∙ here)
 
 -- ---- posts that a reply tells of
 
@@ -155,11 +180,18 @@ new_named h p n lines sync is at =
     subst (IsNamed (may_be_named lines)) e
     (subst (λ ms. may_be_named ms (length h.board.lines) ≡ true) (sym is) (named_new h.board.lines p sync))
 
+-- a claim that may be received may be named
+claim_named : (ms : List Line) (place : ℕ) (line : Line) (what : Selection) → slice_get ms place ≡ Some line
+    → line.post ≡ post.Claim what → may_be_named ms place ≡ true
+claim_named ms place line what here claims =
+    ap (λ o. is_some o && not (is_standard o)) here
+    ∙ ap (λ p. not (is_standard (Some (record { post = p; partner = line.partner })))) claims
+
 -- a reply to such a call tells of a post that may be named
-pub told_named : (h : HubView) (r : ℕ) (q : Request) → IsTold q → (n : ℕ) (done : Bool)
+pub told_named : (h : HubView) → Laid h → (r : ℕ) (q : Request) → IsTold q → (n : ℕ) (done : Bool)
     → (outcome h r q).0 ≡ reply.Posted n done → IsNamed (may_be_named (outcome h r q).1.board.lines) n
-told_named h r (request.Send false comm dest tag bytes) is n done e = absurd is
-told_named h r (request.Send true comm dest tag bytes) is n done e =
+told_named h laid r (request.Send false comm dest tag bytes) is n done e = absurd is
+told_named h laid r (request.Send true comm dest tag bytes) is n done e =
     go (nat_lt (held_count h.board.bodies) 65536) e
   where
     s : Sent
@@ -175,9 +207,9 @@ told_named h r (request.Send true comm dest tag bytes) is n done e =
         → IsNamed (may_be_named (cond b made full).1.board.lines) n
     go true e = new_named h (post.Send s) n _ refl refl (same_post _ _ _ _ e)
     go false e = absurd (cc)
-told_named h r (request.Recv false comm source tag) is n done e =
+told_named h laid r (request.Recv false comm source tag) is n done e =
     new_named h (post.Receive (selecting r comm source tag)) n _ refl refl (same_post _ _ _ _ e)
-told_named h r (request.Recv true comm source tag) is n done e =
+told_named h laid r (request.Recv true comm source tag) is n done e =
     go (collect b (next_number h.board)).0 (collect b (next_number h.board)).1 (collect_lines b (next_number h.board)) e
   where
     b : Board
@@ -188,20 +220,20 @@ told_named h r (request.Recv true comm source tag) is n done e =
         → IsNamed (may_be_named (got_or h (reply.Posted (next_number h.board) false) (o, c)).1.board.lines) n
     go None c same e = new_named h (post.Receive (selecting r comm source tag)) n c.lines refl same (same_post _ _ _ _ e)
     go (Some m) c same e = absurd (cc)
-told_named h r (request.Collect k) is n done e = absurd (go (may_collect h r k) (collect h.board k).0 (collect h.board k).1 e)
+told_named h laid r (request.Collect k) is n done e = absurd (go (may_collect h r k) (collect h.board k).0 (collect h.board k).1 e)
   where
     go : (b : Bool) (o : Option Message) (c : Board)
         → (cond b (got_or h reply.NotYet (o, c)) (reply.Code code.BadRequest, h)).0 ≡ reply.Posted n done → ⊥
     go true None c e = absurd (cc)
     go true (Some m) c e = absurd (cc)
     go false o c e = absurd (cc)
-told_named h r (request.Finished k) is n done e = absurd (go (is_send_of r (line_of h.board k)) (is_complete h k) e)
+told_named h laid r (request.Finished k) is n done e = absurd (go (is_send_of r (line_of h.board k)) (is_complete h k) e)
   where
     go : (b c : Bool) → (let o : Reply × HubView = cond b (cond c reply.Done reply.NotYet, h) (reply.Code code.BadRequest, h) in o).0 ≡ reply.Posted n done → ⊥
     go true true e = absurd (cc)
     go true false e = absurd (cc)
     go false c e = absurd (cc)
-told_named h r (request.All ns) is n done e =
+told_named h laid r (request.All ns) is n done e =
     absurd (go (are_distinct ns && list_all (λ k. is_known h r k) ns) (list_all (λ k. is_ready h r k) ns) e)
   where
     go : (b c : Bool)
@@ -210,29 +242,53 @@ told_named h r (request.All ns) is n done e =
     go true true e = absurd (cc)
     go true false e = absurd (cc)
     go false c e = absurd (cc)
-told_named h r (request.Probe comm source tag) is n done e = absurd (go _ e)
+told_named h laid r (request.Probe comm source tag) is n done e = absurd (go _ e)
   where
     go : (o : Option Envelope) → seen o ≡ reply.Posted n done → ⊥
     go None e = absurd (cc)
     go (Some x) e = absurd (cc)
-told_named h r (request.Claim comm source tag) is n done e = absurd is
-told_named h r (request.Claimed now k) is n done e = absurd is
-told_named h r (request.Init sends comm peer tag parts size) is n done e = absurd is
-told_named h r (request.Cut link) is n done e = absurd is
+told_named h laid r (request.Claim comm source tag) is n done e =
+    absurd (go (probed h.board (post.Claim (selecting r comm source tag))) e)
+  where
+    go : (o : Option Envelope) → held (handle_if (next_number h.board) o) ≡ reply.Posted n done → ⊥
+    go None e = absurd (cc)
+    go (Some x) e = absurd (cc)
+told_named h laid r (request.Claimed now k) is n done e = go (may_receive h.claims r k) refl now e
+  where
+    fewer : HubView
+    fewer = with_claims h (without_claim h.claims r k)
+
+    bad : Reply × HubView
+    bad = (reply.Code code.BadMessage, h)
+
+    got : (o : Option Message) (c : Board) → (got_or fewer reply.NotYet (o, c)).0 ≡ reply.Posted n done → ⊥
+    got None c e = absurd (cc)
+    got (Some m) c e = absurd (cc)
+
+    go : (b : Bool) → may_receive h.claims r k ≡ b → (now : Bool) → (cond b (claimed_now fewer now k) bad).0 ≡ reply.Posted n done
+        → IsNamed (may_be_named (cond b (claimed_now fewer now k) bad).1.board.lines) n
+    go true may true e = absurd (got (collect h.board k).0 (collect h.board k).1 e)
+    go true may false e =
+        let c = laid.owned r k may in
+        let at : suc c.place ≡ n = (let same = same_post k n _ _ e in let its = c.numbered in omega (arith, same, its)) in
+        subst (IsNamed (may_be_named h.board.lines)) at (claim_named h.board.lines c.place c.line c.what c.here c.claims)
+    go false may now e = absurd (cc)
+told_named h laid r (request.Init sends comm peer tag parts size) is n done e = absurd is
+told_named h laid r (request.Cut link) is n done e = absurd is
 
 -- so do they all
-pub tells_named : (h : HubView) (r : ℕ) (q : Request) → IsTold q → (x : Reply) → (outcome h r q).0 ≡ x
+pub tells_named : (h : HubView) → Laid h → (r : ℕ) (q : Request) → IsTold q → (x : Reply) → (outcome h r q).0 ≡ x
     → TellsOnly (may_be_named (outcome h r q).1.board.lines) (answer.Reply x)
-tells_named h r q told (reply.Posted n done) is = told_named h r q told n done is
-tells_named h r q told (reply.Code c) is = tt
-tells_named h r q told (reply.Got m) is = tt
-tells_named h r q told reply.NotYet is = tt
-tells_named h r q told reply.Done is = tt
-tells_named h r q told (reply.Seen e) is = tt
-tells_named h r q told (reply.Held n e) is = tt
-tells_named h r q told (reply.AllGot gots) is = tt
-tells_named h r q told (reply.Link link) is = tt
-tells_named h r q told (reply.Cut parts size) is = tt
+tells_named h laid r q told (reply.Posted n done) is = told_named h laid r q told n done is
+tells_named h laid r q told (reply.Code c) is = tt
+tells_named h laid r q told (reply.Got m) is = tt
+tells_named h laid r q told reply.NotYet is = tt
+tells_named h laid r q told reply.Done is = tt
+tells_named h laid r q told (reply.Seen e) is = tt
+tells_named h laid r q told (reply.Held n e) is = tt
+tells_named h laid r q told (reply.AllGot gots) is = tt
+tells_named h laid r q told (reply.Link link) is = tt
+tells_named h laid r q told (reply.Cut parts size) is = tt
 
 -- posts that may be named may be so afterwards
 pub named_after : (h : HubView) (r : ℕ) (q : Request) → IsListed q → (place : ℕ) → may_be_named h.board.lines place ≡ true
@@ -245,12 +301,13 @@ named_after h r q listed place named = go (makes h r q listed)
     go (a_receive now comm source tag is same) =
         ap (λ ms. may_be_named ms place) same
         ∙ named_added h.board.lines (post.Receive (selecting r comm source tag)) place named
+    go (a_claim what same) = ap (λ ms. may_be_named ms place) same ∙ named_added h.board.lines (post.Claim what) place named
 
 -- a rank that asks so names such posts alone once it is told the reply
-pub names_told : (h : HubView) (r : ℕ) (q : Request) → IsListed q → (rank : Rank) (hart stamp : ℕ) → asked rank hart ≡ Ask.Hub q
+pub names_told : (h : HubView) → Laid h → (r : ℕ) (q : Request) → IsListed q → (rank : Rank) (hart stamp : ℕ) → asked rank hart ≡ Ask.Hub q
     → NamesOnly (may_be_named h.board.lines) rank
     → NamesOnly (may_be_named (outcome h r q).1.board.lines) (told rank hart (answer.Reply (outcome h r q).0) stamp)
-names_told h r (request.Send false comm dest tag bytes) listed rank hart stamp asks only_named =
+names_told h laid r (request.Send false comm dest tag bytes) listed rank hart stamp asks only_named =
     names_more h.board.lines (outcome h r q).1.board.lines _ (named_after h r q listed) (go (nat_lt (held_count h.board.bodies) 65536))
   where
     q : Request
@@ -270,34 +327,40 @@ names_told h r (request.Send false comm dest tag bytes) listed rank hart stamp a
     go false =
         only (may_be_named h.board.lines) (may_be_named h.board.lines) rank hart (answer.Reply (reply.Code code.Full)) stamp
         (λ place named. named) only_named tt
-names_told h r (request.Send true comm dest tag bytes) listed rank hart stamp asks only_named =
+names_told h laid r (request.Send true comm dest tag bytes) listed rank hart stamp asks only_named =
     let q = request.Send true comm dest tag bytes in
     only (may_be_named h.board.lines) (may_be_named (outcome h r q).1.board.lines) rank hart (answer.Reply (outcome h r q).0) stamp
-    (named_after h r q listed) only_named (tells_named h r q tt (outcome h r q).0 refl)
-names_told h r (request.Recv now comm source tag) listed rank hart stamp asks only_named =
+    (named_after h r q listed) only_named (tells_named h laid r q tt (outcome h r q).0 refl)
+names_told h laid r (request.Recv now comm source tag) listed rank hart stamp asks only_named =
     let q = request.Recv now comm source tag in
     only (may_be_named h.board.lines) (may_be_named (outcome h r q).1.board.lines) rank hart (answer.Reply (outcome h r q).0) stamp
-    (named_after h r q listed) only_named (tells_named h r q tt (outcome h r q).0 refl)
-names_told h r (request.Collect n) listed rank hart stamp asks only_named =
+    (named_after h r q listed) only_named (tells_named h laid r q tt (outcome h r q).0 refl)
+names_told h laid r (request.Collect n) listed rank hart stamp asks only_named =
     let q = request.Collect n in
     only (may_be_named h.board.lines) (may_be_named (outcome h r q).1.board.lines) rank hart (answer.Reply (outcome h r q).0) stamp
-    (named_after h r q listed) only_named (tells_named h r q tt (outcome h r q).0 refl)
-names_told h r (request.Finished n) listed rank hart stamp asks only_named =
+    (named_after h r q listed) only_named (tells_named h laid r q tt (outcome h r q).0 refl)
+names_told h laid r (request.Finished n) listed rank hart stamp asks only_named =
     let q = request.Finished n in
     only (may_be_named h.board.lines) (may_be_named (outcome h r q).1.board.lines) rank hart (answer.Reply (outcome h r q).0) stamp
-    (named_after h r q listed) only_named (tells_named h r q tt (outcome h r q).0 refl)
-names_told h r (request.All ns) listed rank hart stamp asks only_named =
+    (named_after h r q listed) only_named (tells_named h laid r q tt (outcome h r q).0 refl)
+names_told h laid r (request.All ns) listed rank hart stamp asks only_named =
     let q = request.All ns in
     only (may_be_named h.board.lines) (may_be_named (outcome h r q).1.board.lines) rank hart (answer.Reply (outcome h r q).0) stamp
-    (named_after h r q listed) only_named (tells_named h r q tt (outcome h r q).0 refl)
-names_told h r (request.Probe comm source tag) listed rank hart stamp asks only_named =
+    (named_after h r q listed) only_named (tells_named h laid r q tt (outcome h r q).0 refl)
+names_told h laid r (request.Probe comm source tag) listed rank hart stamp asks only_named =
     let q = request.Probe comm source tag in
     only (may_be_named h.board.lines) (may_be_named (outcome h r q).1.board.lines) rank hart (answer.Reply (outcome h r q).0) stamp
-    (named_after h r q listed) only_named (tells_named h r q tt (outcome h r q).0 refl)
-names_told h r (request.Claim comm source tag) listed rank hart stamp asks only_named = absurd listed
-names_told h r (request.Claimed now n) listed rank hart stamp asks only_named = absurd listed
-names_told h r (request.Init sends comm peer tag parts size) listed rank hart stamp asks only_named = absurd listed
-names_told h r (request.Cut link) listed rank hart stamp asks only_named = absurd listed
+    (named_after h r q listed) only_named (tells_named h laid r q tt (outcome h r q).0 refl)
+names_told h laid r (request.Claim comm source tag) listed rank hart stamp asks only_named =
+    let q = request.Claim comm source tag in
+    only (may_be_named h.board.lines) (may_be_named (outcome h r q).1.board.lines) rank hart (answer.Reply (outcome h r q).0) stamp
+    (named_after h r q listed) only_named (tells_named h laid r q tt (outcome h r q).0 refl)
+names_told h laid r (request.Claimed now n) listed rank hart stamp asks only_named =
+    let q = request.Claimed now n in
+    only (may_be_named h.board.lines) (may_be_named (outcome h r q).1.board.lines) rank hart (answer.Reply (outcome h r q).0) stamp
+    (named_after h r q listed) only_named (tells_named h laid r q tt (outcome h r q).0 refl)
+names_told h laid r (request.Init sends comm peer tag parts size) listed rank hart stamp asks only_named = absurd listed
+names_told h laid r (request.Cut link) listed rank hart stamp asks only_named = absurd listed
 
 pub listed_of : (patterns : Patterns) (r : ℕ) (w : Bool) (q : Request) → IsAllowed patterns r (pattern_of_request w q) → IsListed q
 listed_of patterns r w (request.Send sync comm dest tag bytes) is = tt
@@ -306,8 +369,8 @@ listed_of patterns r w (request.Collect n) is = tt
 listed_of patterns r w (request.Finished n) is = tt
 listed_of patterns r w (request.All ns) is = tt
 listed_of patterns r w (request.Probe comm source tag) is = tt
-listed_of patterns r w (request.Claim comm source tag) is = absurd is
-listed_of patterns r w (request.Claimed now n) is = absurd is
+listed_of patterns r w (request.Claim comm source tag) is = tt
+listed_of patterns r w (request.Claimed now n) is = tt
 listed_of patterns r w (request.Init sends comm peer tag parts size) is = absurd is
 listed_of patterns r w (request.Cut link) is = absurd is
 
@@ -473,7 +536,8 @@ module _ (search : Search) (r : ℕ) (c new : Cluster) (rank : Rank) (there : sl
                 ∙ named_after (hub_of c.journal) r q listed place named)
                 (subst (λ (h : HubView). NamesOnly (may_be_named h.board.lines)
                 (told rank (search.harts r) (answer.Reply o.0) k.stamp)) (sym k.hubs)
-                (names_told (hub_of c.journal) r q listed rank (search.harts r) k.stamp asks (good.names r rank there)));
+                (names_told (hub_of c.journal) (laid_after c.journal.links (calls_of c.journal.entries)) r q listed rank (search.harts r)
+                k.stamp asks (good.names r rank there)));
             boxes = subst (λ bs. (i : ℕ) (box : Box) → slice_get bs i ≡ Some box → AlikeBoxes box box) (sym k.boxes) good.boxes;
             stands = stands_after (answer.Reply o.0) k.stamp k.ranks tt;
           }

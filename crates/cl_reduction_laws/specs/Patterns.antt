@@ -3,7 +3,7 @@ use Rattle.std.specs.Prelude.{ℕ, ◌≡◌, Bool, true, false, [], None, cond}
 use Rattle.mp_types.specs.declared.requests.Request.{Request}
 use Rattle.mp_types.specs.declared.requests.Request.TheVariants as request
 use Rattle.mp_source_laws.specs.Alike.{Wild}
-use Rattle.mp_clash_laws.specs.Exchanges.{NoRace, NoSync}
+use Rattle.mp_clash_laws.specs.Exchanges.{BringsNothing, NoRace, NoSync}
 use Rattle.cl_state.specs.declared.asking.Ask.{Ask}
 use Rattle.cl_state.specs.Asked.{asked, doing, part_of}
 use Rattle.cl_state.specs.Rank.{Rank}
@@ -17,18 +17,24 @@ pub data Pattern : Type 0 where
   receive : Pattern
   -- WAIT, WAITALL and PROBE, and the poll of a RECV or SSEND: where nothing is there the rank waits on
   wait : Pattern
-  -- TEST, TESTALL and IPROBE: where nothing is there the rank goes on
+  -- TEST of a receive, and IPROBE: where nothing is there the rank goes on
   poll : Pattern
-  -- claims and partitions, which have no pattern of their own yet
+  -- TEST of a synchronous send, and TESTALL, which may name one: the same
+  poll_of_sends : Pattern
+  -- MPROBE, IMPROBE, MRECV and IMRECV
+  claim : Pattern
+  -- partitions, which have no pattern of their own yet
   unlisted : Pattern
 
 abbrev pub pattern_of_request : Bool → Request → Pattern
 pattern_of_request waits (request.Send sync comm dest tag bytes) = send sync dest comm
 pattern_of_request waits (request.Recv now comm source tag) = receive
 pattern_of_request waits (request.Collect post) = cond waits wait poll
-pattern_of_request waits (request.Finished post) = cond waits wait poll
-pattern_of_request waits (request.All posts) = cond waits wait poll
+pattern_of_request waits (request.Finished post) = cond waits wait poll_of_sends
+pattern_of_request waits (request.All posts) = cond waits wait poll_of_sends
 pattern_of_request waits (request.Probe comm source tag) = cond waits wait poll
+pattern_of_request waits (request.Claim comm source tag) = claim
+pattern_of_request waits (request.Claimed now message) = claim
 pattern_of_request waits _ = unlisted
 
 abbrev pub pattern_of_ask : Bool → Ask → Pattern
@@ -58,13 +64,15 @@ IsAllowed patterns r p = patterns r p ≡ true
 -- ---- which turns may pass one another
 
 -- a send or a receive q of rank r may go before what rank s asks. No rank can tell which was first: two sends to one rank
--- are told apart where it asks for any source, a synchronous send tells whether its receive was posted, and a poll tells
--- that nothing is there
+-- are told apart where it asks for any source, a synchronous send tells whether its receive was posted, a poll tells that
+-- nothing is there, and a claim tells a number that counts all posts before it
 abbrev pub MayPass : Wild → ℕ → Request → ℕ → Pattern → Type 0
 MayPass wild r q s own = Unit {0}
 MayPass wild r q s wait = Unit {0}
 MayPass wild r q s (send sync dest comm) =
     NoRace wild q (request.Send sync comm dest 0 []) × NoSync r q s (request.Send sync comm dest 0 [])
 MayPass wild r q s receive = NoSync r q s (request.Recv false 0 None None)
-MayPass wild r q s poll = ⊥
+MayPass wild r q s poll = BringsNothing q s (request.Collect 0)
+MayPass wild r q s poll_of_sends = BringsNothing q s (request.Finished 0)
+MayPass wild r q s claim = ⊥
 MayPass wild r q s unlisted = ⊥

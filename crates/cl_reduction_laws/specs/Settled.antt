@@ -1,11 +1,15 @@
 -- Clusters from which turns that nobody contests lead to clusters of a list, wherever each of them may lead.
-use Rattle.std.specs.Prelude.{ℕ, zero, suc, ◌+◌, ◌<◌, ◌≡◌, ◌⊎◌, true, length, Some}
+use Rattle.std.specs.Prelude.{ℕ, zero, suc, ◌+◌, ◌<◌, ◌≡◌, ◌≢◌, ◌⊎◌, true, length, Some}
 use Rattle.std.specs.List.{slice_get}
-use Rattle.cl_state.specs.Asked.{doing, part_of}
+use Rattle.mp_types.specs.declared.replies.Reply.TheVariants.{NotYet}
+use Rattle.mp_types.specs.declared.requests.Request.TheVariants as request
+use Rattle.cl_state.specs.declared.asking.Ask.{Ask}
+use Rattle.cl_state.specs.Asked.{asked, doing, part_of}
 use Rattle.cl_state.specs.Rank.{Rank}
 use Rattle.cl_state_laws.specs.Awake.{StandsAtCall}
 use Rattle.cl_state_laws.specs.Vain.{waits_on}
 use Rattle.cl_machine.specs.Cluster.{Cluster}
+use Rattle.cl_machine.specs.Journal.{reply_in}
 use Rattle.cl_order_laws.specs.Closed.{Plans, WaitsInVain}
 use Rattle.cl_first_laws.specs.Below.{AreAlike}
 use Rattle.cl_first_laws.specs.Laws.{Turn}
@@ -35,13 +39,20 @@ IsSettled search Is c = (n : ℕ) × Settles search Is n c
 
 -- ---- clusters of the list
 
--- where the rank's hart makes a call that is made anew until there is something, it waits, and in vain
+-- what is asked is a claim that finds its message
+abbrev pub FindsClaim : Cluster → ℕ → Ask → Type 0
+FindsClaim c r (Ask.Hub (request.Claim comm source tag)) = reply_in c.journal r (request.Claim comm source tag) ≢ NotYet
+FindsClaim c r _ = ⊥
+
+-- where the rank's hart makes a call that is made anew until there is something, it waits, and in vain. Only a claim may find
+-- its message there: it isn't made at once, because the number that it tells counts all posts before it
 abbrev pub RestsIfWaiting : Search → Cluster → ℕ → Rank → Type 0
 RestsIfWaiting search c r rank =
-    waits_on (doing rank.site (part_of rank (search.harts r))) ≡ true → WaitsInVain c r rank (search.harts r)
+    waits_on (doing rank.site (part_of rank (search.harts r))) ≡ true
+    → WaitsInVain c r rank (search.harts r) ⊎ FindsClaim c r (asked rank (search.harts r))
 
--- what is known of each: what ranks ask is within the patterns, no send is refused, who waits waits in vain, and a hart that
--- is to make its call anew stands at it
+-- what is known of each: what ranks ask is within the patterns, no send is refused, who waits waits in vain or finds what it
+-- claims, and a hart that is to make its call anew stands at it
 pub record IsFit (search : Search) (c : Cluster) : Type 0 where
   pub within : AllWithin search c
   pub room : posts_of c + 3 < 65536

@@ -5,4 +5,5 @@ pub mod Postings
 pub mod Calls
 pub mod Later
 pub mod Refused
+pub mod Looks
 pub mod Rows

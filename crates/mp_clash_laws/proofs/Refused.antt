@@ -33,13 +33,13 @@ use Rattle.mp_alike_laws.specs.Alike.{maker}
 
 -- ---- whose a post is
 
-abbrev sends_it : ℕ → Post → Bool
+abbrev pub sends_it : ℕ → Post → Bool
 sends_it s p = is_send_of s (Some (record { post = p; partner = None }))
 
 abbrev receives_it : ℕ → Post → Bool
 receives_it s p = is_receive_of s (Some (record { post = p; partner = None }))
 
-sends_by : (s : ℕ) (m : Line) → is_send_of s (Some m) ≡ sends_it s m.post
+pub sends_by : (s : ℕ) (m : Line) → is_send_of s (Some m) ≡ sends_it s m.post
 sends_by s m = refl
 
 receives_by : (s : ℕ) (m : Line) → is_receive_of s (Some m) ≡ receives_it s m.post
@@ -47,7 +47,7 @@ receives_by s m = refl
 
 module _ (s : ℕ) where
   -- neither a send nor a receive of another rank
-  no_send : (r : ℕ) (p : Post) → r ≢ s → maker p ≡ r → sends_it s p ≡ false
+  pub no_send : (r : ℕ) (p : Post) → r ≢ s → maker p ≡ r → sends_it s p ≡ false
   no_send r (post.Send t) apart mine = ne_eqb (t.envelope).source s (λ e. apart (sym mine ∙ e))
   no_send r (post.Receive a) apart mine = refl
   no_send r (post.Claim a) apart mine = refl
@@ -60,7 +60,7 @@ module _ (s : ℕ) where
   -- what is told by a post alone, of another rank's none, is told of each place as before
   module _ (test : Option Line → Bool) (of : Post → Bool) (some : (m : Line) → test (Some m) ≡ of m.post)
       (none : test None ≡ false) (lines : List Line) (p : Post) (new : of p ≡ false) where
-    same_at : (i : ℕ) → test (slice_get (add lines p) i) ≡ test (slice_get lines i)
+    pub same_at : (i : ℕ) → test (slice_get (add lines p) i) ≡ test (slice_get lines i)
     same_at i = elim (cases_order i (length lines)) [
       | inl at ↦
           ap (λ k. test (slice_get (add lines p) k)) at ∙ ap test (add_new lines p)

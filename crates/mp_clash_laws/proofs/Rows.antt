@@ -74,4 +74,5 @@ worked_clashes = record {
   any = any_source;
   posted = posted_first;
   synchronous = (refl, refl);
+  polled = (refl, refl, refl);
 }

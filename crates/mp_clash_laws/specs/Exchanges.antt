@@ -92,3 +92,19 @@ IsRefused h s (request.Collect post) = may_collect h s post ≡ false
 IsRefused h s (request.Finished post) = is_send_of s (line_of h.board post) ≡ false
 IsRefused h s (request.All posts) = (are_distinct posts && list_all (λ n. is_known h s n) posts) ≡ false
 IsRefused h s _ = ⊥
+
+-- calls that collect or look: of those that make no post these are told whether something is there
+abbrev pub IsLook : Request → Type 0
+IsLook (request.Collect post) = Unit {0}
+IsLook (request.Finished post) = Unit {0}
+IsLook (request.All posts) = Unit {0}
+IsLook (request.Probe comm source tag) = Unit {0}
+IsLook _ = ⊥
+
+-- the send or receive q of another rank brings rank s nothing that it looks for by p: a send is told of at its destination
+-- alone, and a receive by the looks of a rank that waits for a synchronous send to be received
+abbrev pub BringsNothing : Request → ℕ → Request → Type 0
+BringsNothing (request.Send sync comm dest tag bytes) s p = dest ≢ s
+BringsNothing (request.Recv now comm source tag) s (request.Collect post) = Unit {0}
+BringsNothing (request.Recv now comm source tag) s (request.Probe other from label) = Unit {0}
+BringsNothing _ s p = ⊥

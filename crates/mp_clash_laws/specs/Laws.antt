@@ -3,10 +3,10 @@ use Rattle.std.specs.Prelude.{ℕ, ◌+◌, ◌<◌, ◌≡◌, ◌≢◌, ◌�
 use Rattle.rv_image_types.specs.declared.images.Link.{Link}
 use Rattle.mp_types.specs.declared.requests.Request.{Request}
 use Rattle.mp_types.specs.declared.codes.Code.TheVariants.{BadRequest}
-use Rattle.mp_types.specs.declared.replies.Reply.TheVariants.{Code}
+use Rattle.mp_types.specs.declared.replies.Reply.TheVariants.{Code, NotYet}
 use Rattle.mp_hub.specs.Hub.{Call, hub_after, outcome}
 use Rattle.mp_source_laws.specs.Alike.{Wild}
-use Rattle.mp_clash_laws.specs.Exchanges.{CollectsLater, IsPosting, IsRefused, MayExchange, NoRace, NoSync, WaitsWithin}
+use Rattle.mp_clash_laws.specs.Exchanges.{BringsNothing, CollectsLater, IsLook, IsPosting, IsRefused, MayExchange, NoRace, NoSync, WaitsWithin}
 
 -- sends and receives of two ranks that make no race may be exchanged: both ranks are told the same and the hubs are
 -- alike, or one of them receives the other's message, which it collects later where it posted its receive first
@@ -26,3 +26,12 @@ RefusedLaw =
     → (outcome (hub_after links calls) s x ≡ (Code BadRequest, hub_after links calls))
     × (outcome (outcome (hub_after links calls) r q).1 s x
     ≡ (Code BadRequest, (outcome (hub_after links calls) r q).1))
+
+-- a call that is told that nothing is there changes nothing, and is told so behind a send or a receive of another rank too
+-- that brings it nothing
+abbrev pub VainLookLaw : Type 0
+VainLookLaw =
+    (links : List Link) (calls : List Call) (r s : ℕ) (q x : Request) → r ≢ s → IsPosting q → IsLook x → BringsNothing q s x
+    → (outcome (hub_after links calls) s x).0 ≡ NotYet
+    → (outcome (hub_after links calls) s x ≡ (NotYet, hub_after links calls))
+    × (outcome (outcome (hub_after links calls) r q).1 s x ≡ (NotYet, (outcome (hub_after links calls) r q).1))

@@ -1,9 +1,9 @@
 -- Worked rows: calls that may be exchanged, and calls that clash. A message has one byte.
 use Rattle.std.specs.Prelude.{◌≡◌, true, false, [], ◌∷◌, None}
-use Rattle.mp_types.specs.declared.replies.Reply.TheVariants.{Posted}
+use Rattle.mp_types.specs.declared.replies.Reply.TheVariants.{NotYet, Posted, Seen}
 use Rattle.mp_types.specs.declared.requests.Request.TheVariants as request
 use Rattle.mp_hub.specs.Hub.{reply_of}
-use Rattle.mp_hub.specs.RankRows.{sends_in}
+use Rattle.mp_hub.specs.RankRows.{envelope_in, sends_in}
 use Rattle.mp_alike_laws.specs.Rows.{after}
 use Rattle.mp_source_laws.specs.Alike.{Wild}
 use Rattle.mp_source_laws.specs.Laws.{AreAlike}
@@ -39,8 +39,17 @@ SynchronousSend =
     (reply_of [] [] 0 (request.Send true 0 1 7 (97 ∷ [])) ≡ Posted 1 false)
     × (reply_of [] ((1, request.Recv false 0 None None) ∷ []) 0 (request.Send true 0 1 7 (97 ∷ [])) ≡ Posted 2 true)
 
+-- rank 1 polls for a message of any source, and there is none: rank 0's send to rank 2 brings it nothing, and its send to
+-- rank 1 brings it one
+abbrev pub PolledMessage : Type 0
+PolledMessage =
+    (reply_of [] [] 1 (request.Probe 0 None None) ≡ NotYet)
+    × (reply_of [] (sends_in 0 0 2 7 97 ∷ []) 1 (request.Probe 0 None None) ≡ NotYet)
+    × (reply_of [] (sends_in 0 0 1 7 97 ∷ []) 1 (request.Probe 0 None None) ≡ Seen (envelope_in 0 0 7))
+
 pub record WorkedClashes : Type 0 where
   pub named : NamedSources
   pub any : AnySource
   pub posted : PostedFirst
   pub synchronous : SynchronousSend
+  pub polled : PolledMessage

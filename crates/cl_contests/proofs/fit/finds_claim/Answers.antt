@@ -1,0 +1,13 @@
+use Rattle.std.proofs.Common.{sym, subst, ◌∙◌}
+use Rattle.std.proofs.lemmas.Bool.{not-true}
+use Rattle.cl_reduction_laws.specs.Settled.{FindsClaim}
+use Rattle.cl_moves.proofs.Resting.{hub_in_vain}
+use Rattle.cl_contests.proofs.Fits.{claim_found}
+use Rattle.cl_contests.proofs.fit.finds_claim.Goals as goal
+
+pub returns-in-Claim : goal.returns-in-Claim
+returns-in-Claim c = λ its image cluster stands.
+    subst (FindsClaim cluster c.args.rank) (sym c.in-Hub.is)
+    (claim_found cluster c.args.rank c.in-Hub.request c.in-Claim.is (λ none.
+    let vain = (hub_in_vain image c.args.state.now cluster stands c.args.rank c.in-Hub.request).1 none in
+    let no = sym (not-true c.asks_in_vain.result its) ∙ (c.asks_in_vain.ensures ∙ vain) in cc))
