@@ -1,12 +1,13 @@
 -- The titles of all arrows stand in the text.
-use Rattle.std.specs.Prelude.{ℕ, ◌≡◌, ◌⊎◌, ◌<◌, ◌≤◌, ◌+◌, not, Bool, true, false, List, [], ◌∷◌, ◌++◌, length, take}
+use Rattle.std.specs.Prelude.{ℕ, ◌≡◌, ◌⊎◌, ◌<◌, ◌≤◌, ◌+◌, Bool, true, false, List, [], ◌∷◌, ◌++◌, length, take}
 use Rattle.std.specs.List.{All}
-use Rattle.std.proofs.Common.{refl, sym, ap, ◌∙◌, subst, inl, inr, append-nil, append_assoc, get_or}
+use Rattle.std.proofs.Common.{refl, sym, ap, ◌∙◌, subst, inl, inr, append_assoc, get_or}
 use Rattle.std.proofs.lemmas.List.{take_more}
 use Rattle.std.proofs.lemmas.List.Elements.{All-cons, All-head, All-nil, All-tail}
 use Rattle.rvmc_draw.specs.declared.drawing.Arrow.{Arrow}
 use Rattle.rvmc_draw.specs.declared.drawing.Carried.{Carried}
-use Rattle.rvmc_svg.specs.Adding.{AddsArrows, AddsIf, AddsWanted, is_could, is_wanted}
+use Rattle.rvmc_draw.specs.declared.drawing.Carried.TheVariants.{Could, Message, Claim, Partition}
+use Rattle.rvmc_svg.specs.Adding.{AddsArrows, AddsIf, AddsWanted, is_wanted}
 use Rattle.rvmc_svg.specs.Shown.{HasTitle}
 use Rattle.rvmc_svg.specs.Titles.{arrow_title}
 use Rattle.rvmc_svg.proofs.Shown.{all_more, all_so, all_taken, shows_before, shows_behind}
@@ -41,11 +42,10 @@ all_added could arrows k old new past so_far = record {
 -- ---- both kinds
 
 either : (c : Carried) → (is_wanted true c ≡ true) ⊎ (is_wanted false c ≡ true)
-either c = go (is_could c) refl
-  where
-    go : (b : Bool) → is_could c ≡ b → (is_could c ≡ true) ⊎ (not (is_could c) ≡ true)
-    go true own = inl own
-    go false own = inr (ap not own)
+either (Could tag count) = inl refl
+either (Message tag count) = inr refl
+either (Claim tag count) = inr refl
+either (Partition link part phase) = inr refl
 
 all_of_both : (first second : List ℕ) (arrows : List Arrow) → All (Wanted true first) arrows
     → All (Wanted false second) arrows → All (λ (a : Arrow). HasTitle (first ++ second) (arrow_title a)) arrows
@@ -69,9 +69,10 @@ both_added arrows old now new ones others = record {
 
 -- ---- the page
 
-pub all_behind : (arrows : List Arrow) (old new : List ℕ) → AddsArrows arrows old new
-    → All (λ (a : Arrow). HasTitle new (arrow_title a)) arrows
-all_behind arrows old new adds =
+pub all_behind : (arrows : List Arrow) (old now new : List ℕ) → AddsWanted true arrows old now
+    → AddsWanted false arrows now new → All (λ (a : Arrow). HasTitle new (arrow_title a)) arrows
+all_behind arrows old now new ones others =
+    let adds = both_added arrows old now new ones others in
     all_so (λ (a : Arrow). HasTitle adds.more (arrow_title a)) (λ (a : Arrow). HasTitle new (arrow_title a)) arrows
     (λ a s. subst (λ l. HasTitle l (arrow_title a)) (sym adds.are) (shows_behind adds.more old (arrow_title a) s))
     adds.shows

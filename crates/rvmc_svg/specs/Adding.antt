@@ -1,5 +1,5 @@
 -- What is added to a picture's text.
-use Rattle.std.specs.Prelude.{ℕ, ◌≡◌, if◌then◌else◌, not, Bool, true, false, List, [], ◌∷◌, ◌++◌}
+use Rattle.std.specs.Prelude.{ℕ, ◌≡◌, not, Bool, true, List, [], ◌∷◌, ◌++◌}
 use Rattle.std.specs.List.{All}
 use Rattle.rvmc_draw.specs.declared.drawing.Arrow.{Arrow}
 use Rattle.rvmc_draw.specs.declared.drawing.Carried.{Carried}
@@ -20,13 +20,10 @@ pub record Adds (old title new : List ℕ) : Type 0 where
 
 -- ---- which lie below others
 
-abbrev pub is_could : Carried → Bool
-is_could (Could tag count) = true
-is_could c = false
-
 -- those of what could have been taken, or the others
 abbrev pub is_wanted : Bool → Carried → Bool
-is_wanted could c = if could then is_could c else not (is_could c)
+is_wanted could (Could tag count) = could
+is_wanted could c = not could
 
 -- if an arrow is wanted, something was added in which its title stands
 pub record AddsIf (wanted : Bool) (old title new : List ℕ) : Type 0 where

@@ -1,124 +1,98 @@
 //! The end: whom each hart that waits there waits for, and what is told of it.
 
-use crate::layout::{lane_at, rank_at};
+use crate::forms::{AWAITED, HEAD, OWN, ROW, TOLD, WAITS, WAITS_FOR};
+use crate::layout::Layout;
 use crate::pieces::Piece::{Across, Guest, Hart, Number, Rank, Words};
 use crate::pieces::put;
-use rvmc_draw::{Drawing, Row};
+use rvmc_draw::Row;
 use std::io;
 
 /// How far apart two rows are, and two lines.
-const ROW: u64 = 18;
+const ROWS_APART: u64 = 18;
 
-const LINE: u64 = 14;
+const LINES_APART: u64 = 14;
 
 /// The middle of the page.
 const MIDDLE: u64 = 5_000;
 
-/// Adds what is told of a row: the ranks that are waited for.
-fn put_title(text: &mut Vec<u8>, row: &Row) -> io::Result<()> {
-    put(
-        text,
-        "<g><title>rank {} hart {} waits for",
-        &[Rank(row.rank), Hart(row.hart)],
-    )?;
-    for rank in row.awaited.as_slice() {
-        put(text, " rank {}", &[Rank(*rank)])?;
-    }
-    let itself = if row.awaited.is_empty() {
-        " its own rank"
-    } else {
-        ""
-    };
-    let stuck = if row.stuck { ": in a deadlock" } else { "" };
-    put(text, "{}{}</title>", &[Words(itself), Words(stuck)])
-}
-
 /// Adds a row's heads, of this class, at each rank that the hart waits for, or that it waits for its own.
 fn put_heads(
     text: &mut Vec<u8>,
-    drawing: &Drawing,
+    layout: &Layout<'_>,
     row: &Row,
     own: u64,
     down: u64,
     class: &'static str,
 ) -> io::Result<()> {
     for rank in row.awaited.as_slice() {
-        let at = rank_at(drawing, *rank);
-        let name = if at < own { "to-left" } else { "to-right" };
-        put(
-            text,
-            "<use href=\"#{}\" class=\"{}\" x=\"{}\" y=\"{}\"/>",
-            &[Words(name), Words(class), Across(at), Number(down)],
-        )?;
+        let at = layout.rank_at(*rank);
+        let name = Words(if at < own { "to-left" } else { "to-right" });
+        put(text, HEAD, &[name, Words(class), Across(at), Number(down)])?;
     }
     if !row.awaited.is_empty() {
         return Ok(());
     }
     let (anchor, dx) = if own > MIDDLE {
-        ("end", "-9")
+        (Words("end"), Words("-9"))
     } else {
-        ("start", "9")
+        (Words("start"), Words("9"))
     };
-    put(
-        text,
-        "<text class=\"dim\" font-size=\"10\" text-anchor=\"{}\" dx=\"{}\" x=\"{}\" y=\"{}\">for its own rank</text>",
-        &[
-            Words(anchor),
-            Words(dx),
-            Across(own),
-            Number(down.saturating_add(4)),
-        ],
-    )
+    let down = Number(down.saturating_add(4));
+    put(text, OWN, &[anchor, dx, Across(own), down])
 }
 
-/// Adds a row: its line, over the hart's lane and each rank that it waits for, its begin, at the hart's lane, and its heads.
-fn put_row(text: &mut Vec<u8>, drawing: &Drawing, row: &Row, down: u64) -> io::Result<()> {
-    let own = lane_at(drawing, row.rank, row.hart);
+/// Adds a row: its title, its line, over the hart's lane and each rank that it waits for, its begin, at the hart's lane, and
+/// its heads.
+fn put_row(text: &mut Vec<u8>, layout: &Layout<'_>, row: &Row, down: u64) -> io::Result<()> {
+    let own = layout.lane_at(row.rank, row.hart);
     let mut least = own;
     let mut most = own;
+    put(text, WAITS, &[Rank(row.rank), Hart(row.hart)])?;
     for rank in row.awaited.as_slice() {
-        let at = rank_at(drawing, *rank);
+        put(text, AWAITED, &[Rank(*rank)])?;
+        let at = layout.rank_at(*rank);
         least = least.min(at);
         most = most.max(at);
     }
-    // of a rank in a deadlock, or of another
-    let (line, begin, head) = if row.stuck {
-        ("rule", "ever", "red")
+    let itself = if row.awaited.is_empty() {
+        " its own rank"
     } else {
-        ("lane", "wait", "dim")
+        ""
     };
-    put_title(text, row)?;
+    // of a rank in a deadlock, or of another
+    let (stuck, line, begin, head) = if row.stuck {
+        (": in a deadlock", "rule", "ever", "red")
+    } else {
+        ("", "lane", "wait", "dim")
+    };
     put(
         text,
-        "<line class=\"{}\" x1=\"{}\" x2=\"{}\" y1=\"{}\" y2=\"{}\"/><circle class=\"{}\" r=\"4\" cx=\"{}\" cy=\"{}\"/>",
+        ROW,
         &[
+            Words(itself),
+            Words(stuck),
             Words(line),
             Across(least),
             Across(most),
             Number(down),
-            Number(down),
             Words(begin),
             Across(own),
-            Number(down),
         ],
     )?;
-    put_heads(text, drawing, row, own, down, head)?;
+    put_heads(text, layout, row, own, down, head)?;
     put(text, "</g>\n", &[])
 }
 
 /// Adds what the rows are, and the rows, from this one on, and tells where they end.
-pub(crate) fn put_rows(text: &mut Vec<u8>, drawing: &Drawing, from: u64) -> io::Result<u64> {
+pub(crate) fn put_rows(text: &mut Vec<u8>, layout: &Layout<'_>, from: u64) -> io::Result<u64> {
+    let rows = layout.drawing.rows.as_slice();
     let mut down = from;
-    if !drawing.rows.is_empty() {
-        put(
-            text,
-            "<text class=\"dim\" font-size=\"10\" x=\"3\" y=\"{}\">waits for</text>\n",
-            &[Number(down.saturating_add(3))],
-        )?;
+    if !rows.is_empty() {
+        put(text, WAITS_FOR, &[Number(down.saturating_add(3))])?;
     }
-    for row in drawing.rows.as_slice() {
-        put_row(text, drawing, row, down)?;
-        down = down.saturating_add(ROW);
+    for row in rows {
+        put_row(text, layout, row, down)?;
+        down = down.saturating_add(ROWS_APART);
     }
     Ok(down)
 }
@@ -139,44 +113,28 @@ fn parted(line: &[u8]) -> usize {
     found
 }
 
-/// A line of what is told.
-const TOLD: &str =
-    "<text class=\"{}\" font-size=\"11\" xml:space=\"preserve\" x=\"{}\" y=\"{}\">{}</text>\n";
-
-/// Adds one line in one or two, but the verdict on a deadlock in one, and tells where the next begins.
-fn put_told_line(text: &mut Vec<u8>, line: &[u8], down: u64) -> io::Result<u64> {
-    let (class, part) = if line.starts_with(b"deadlock: ") {
-        ("red bold", line.len())
-    } else {
-        ("ink", parted(line).min(line.len()))
-    };
-    put(
-        text,
-        TOLD,
-        &[Words(class), Number(12), Number(down), Guest(&line[..part])],
-    )?;
-    let down = down.saturating_add(LINE);
-    if part == line.len() {
-        return Ok(down);
-    }
-    put(
-        text,
-        TOLD,
-        &[Words(class), Number(28), Number(down), Guest(&line[part..])],
-    )?;
-    Ok(down.saturating_add(LINE))
-}
-
-/// Adds what is told, from this row on, and tells where it ends.
+/// Adds what is told, from this row on, and tells where it ends: each line in one or two, but the verdict on a deadlock in one.
 pub(crate) fn put_told(text: &mut Vec<u8>, told: &[u8], from: u64) -> io::Result<u64> {
     let mut down = from;
-    let mut begun = 0;
+    let mut begun: usize = 0;
     for at in 0..told.len() {
-        if told[at] == b'\n' {
-            if begun <= at {
-                down = put_told_line(text, &told[begun..at], down)?;
-            }
-            begun = at.saturating_add(1);
+        if told[at] != b'\n' {
+            continue;
+        }
+        let line = &told[begun.min(at)..at];
+        begun = at.saturating_add(1);
+        let (class, part) = if line.starts_with(b"deadlock: ") {
+            (Words("red bold"), line.len())
+        } else {
+            (Words("ink"), parted(line).min(line.len()))
+        };
+        let begin = Guest(&line[..part]);
+        put(text, TOLD, &[class, Number(12), Number(down), begin])?;
+        down = down.saturating_add(LINES_APART);
+        if part < line.len() {
+            let rest = Guest(&line[part..]);
+            put(text, TOLD, &[class, Number(28), Number(down), rest])?;
+            down = down.saturating_add(LINES_APART);
         }
     }
     Ok(down)

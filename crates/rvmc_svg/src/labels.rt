@@ -1,12 +1,12 @@
 //! Room for what is written beside marks and arrows.
 
-use std::alloc::{AllocError, Global};
+use std::alloc::AllocError;
 
 /// How high a line of writing is.
 const HIGH: u64 = 12;
 
-/// How wide a letter is, about.
-const LETTER: u64 = 6;
+/// How wide a letter is, about, in pixels.
+pub(crate) const LETTER: u64 = 6;
 
 /// How wide a letter is at most, and how many pixels a page has at least that shows more than marks and places.
 const WIDEST: u64 = 11;
@@ -18,7 +18,7 @@ const WHOLE: u64 = 10_000;
 
 /// Where something is written already: from here to there across, and the row.
 #[derive(Clone, Copy, Drop)]
-struct Place {
+pub(crate) struct Place {
     left: u64,
     right: u64,
     row: u64,
@@ -27,27 +27,14 @@ struct Place {
 /// All places where something is written, on a page of so many pixels.
 #[derive(Drop)]
 pub(crate) struct Places {
-    page: u64,
-    taken: Vec<Place>,
+    pub page: u64,
+    pub taken: Vec<Place>,
 }
 
 impl Places {
-    /// Nothing is written yet.
-    pub(crate) fn new(alloc: Global, page: u64) -> Places {
-        Places {
-            page,
-            taken: Vec::new(alloc),
-        }
-    }
-
     /// So many pixels, as a length across.
     pub(crate) fn pixels(&self, count: u64) -> u64 {
         count.saturating_mul(WHOLE) / self.page.max(1)
-    }
-
-    /// How wide so many letters are.
-    pub(crate) fn letters(&self, count: usize) -> u64 {
-        self.pixels((count as u64).saturating_mul(LETTER))
     }
 
     /// Whether so many letters fit between this place and the page's edge at its left or its right, the first of them so

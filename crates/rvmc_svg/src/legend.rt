@@ -1,6 +1,9 @@
 //! The legend: each shape that the picture has, drawn.
 
-use crate::arrows::shared_kind;
+use crate::arrows::{Kinds, kinds_of};
+use crate::forms::{
+    ARROW_SIGN, BAR_SIGN, MARK_SIGN, MEANING, NUMBERS, ONE_KIND, SEVERAL_KINDS, WILD_SIGN,
+};
 use crate::marks::shape_name;
 use crate::pieces::Piece::{Number, Words};
 use crate::pieces::put;
@@ -33,8 +36,6 @@ enum Sign {
 /// A kind of arrow.
 #[derive(Clone, Copy, Drop)]
 enum Kind {
-    /// Of a message.
-    Message,
     /// To a claim.
     Claim,
     /// Of what could have been taken.
@@ -68,22 +69,6 @@ static SIGNS: [(Sign, &str); 21] = [
     (Sign::Arrow(Kind::Could, "far"), "could have been got"),
 ];
 
-/// Whether the picture has an arrow of this kind.
-fn has_arrow(drawing: &Drawing, kind: Kind) -> bool {
-    for arrow in drawing.arrows.as_slice() {
-        let is = match kind {
-            Kind::Message => matches!(arrow.carried, Carried::Message { .. }),
-            Kind::Claim => matches!(arrow.carried, Carried::Claim { .. }),
-            Kind::Could => matches!(arrow.carried, Carried::Could { .. }),
-            Kind::Lost => arrow.to.is_none(),
-        };
-        if is {
-            return true;
-        }
-    }
-    false
-}
-
 /// Whether the picture has what this is the sign of.
 fn has(drawing: &Drawing, sign: Sign) -> bool {
     for mark in drawing.marks.as_slice() {
@@ -105,94 +90,65 @@ fn has(drawing: &Drawing, sign: Sign) -> bool {
             return true;
         }
     }
-    match sign {
-        Sign::Arrow(kind, _) => has_arrow(drawing, kind),
-        _ => false,
+    for arrow in drawing.arrows.as_slice() {
+        let is = match sign {
+            Sign::Arrow(Kind::Claim, _) => matches!(arrow.carried, Carried::Claim { .. }),
+            Sign::Arrow(Kind::Could, _) => matches!(arrow.carried, Carried::Could { .. }),
+            Sign::Arrow(Kind::Lost, _) => arrow.to.is_none(),
+            _ => false,
+        };
+        if is {
+            return true;
+        }
     }
-}
-
-/// Adds a sign, so far across, in per cent, and so far down, and behind it what it means.
-fn put_sign(
-    text: &mut Vec<u8>,
-    sign: Sign,
-    meaning: &'static str,
-    across: u64,
-    down: u64,
-) -> io::Result<()> {
-    let x = Number(across);
-    let y = Number(down);
-    match sign {
-        Sign::Mark(shape) => put(
-            text,
-            "<use href=\"#{}\" class=\"f0\" transform=\"translate(14 0)\" x=\"{}%\" y=\"{}\"/>",
-            &[Words(shape_name(shape)), x, y],
-        )?,
-        Sign::Bar(_, class) => put(
-            text,
-            "<rect class=\"{}\" rx=\"2\" width=\"6\" height=\"12\" transform=\"translate(11 0)\" x=\"{}%\" y=\"{}\"/>",
-            &[Words(class), x, Number(down.saturating_sub(6))],
-        )?,
-        Sign::Wild => put(
-            text,
-            "<use href=\"#ring\" transform=\"translate(14 0)\" x=\"{}%\" y=\"{}\"/>",
-            &[x, y],
-        )?,
-        Sign::Arrow(_, class) => put(
-            text,
-            "<svg overflow=\"visible\" x=\"{}%\" y=\"{}\"><path class=\"a thin {} s0\" d=\"M4,0h18\"/></svg>",
-            &[x, y, Words(class)],
-        )?,
-    }
-    put(
-        text,
-        "<text class=\"dim\" font-size=\"10\" dx=\"26\" x=\"{}%\" y=\"{}\">{}</text>\n",
-        &[x, Number(down.saturating_add(4)), Words(meaning)],
-    )
+    false
 }
 
 /// Adds what all messages share, or how one is told, and where the next line stands.
-fn put_kind(text: &mut Vec<u8>, drawing: &Drawing, down: u64) -> io::Result<u64> {
-    if !has_arrow(drawing, Kind::Message) {
-        return Ok(down);
-    }
-    match shared_kind(drawing.arrows.as_slice()) {
-        None => put(
-            text,
-            "<text class=\"dim wide\" font-size=\"10\" x=\"12\" y=\"{}\">t7 8B: a message with tag 7 and 8 bytes</text>\n",
-            &[Number(down)],
-        )?,
-        Some((tag, count)) => put(
-            text,
-            "<text class=\"dim\" font-size=\"10\" x=\"12\" y=\"{}\">each message: tag {}, {} {}</text>\n",
-            &[
-                Number(down),
-                Number(u64::from(tag)),
-                Number(u64::from(count)),
-                Words(if count == 1 { "byte" } else { "bytes" }),
-            ],
-        )?,
+fn put_kinds(text: &mut Vec<u8>, drawing: &Drawing, down: u64) -> io::Result<u64> {
+    match kinds_of(drawing.arrows.as_slice()) {
+        Kinds::None => return Ok(down),
+        Kinds::One(tag, count) => {
+            let (tag, size) = (Number(u64::from(tag)), Number(u64::from(count)));
+            let unit = Words(if count == 1 { "byte" } else { "bytes" });
+            put(text, ONE_KIND, &[Number(down), tag, size, unit])?
+        }
+        Kinds::Several => put(text, SEVERAL_KINDS, &[Number(down)])?,
     }
     Ok(down.saturating_add(LINE))
 }
 
 /// Adds the legend, from this row on, and tells where it ends.
 pub(crate) fn put_legend(text: &mut Vec<u8>, drawing: &Drawing, from: u64) -> io::Result<u64> {
-    let mut down = put_kind(text, drawing, from)?;
-    put(
-        text,
-        "<text class=\"dim\" font-size=\"10\" x=\"12\" y=\"{}\">numbers at the left: steps, as in `rvmc debug go=N`</text>\n",
-        &[Number(down)],
-    )?;
+    let mut down = put_kinds(text, drawing, from)?;
+    put(text, NUMBERS, &[Number(down)])?;
     down = down.saturating_add(18);
     let mut across: u64 = 0;
-    for sign in &SIGNS {
-        if has(drawing, sign.0) {
-            put_sign(text, sign.0, sign.1, across, down)?;
-            across = across.saturating_add(APART);
-            if across >= END {
-                across = 0;
-                down = down.saturating_add(ROW);
-            }
+    for row in &SIGNS {
+        let (sign, meaning) = *row;
+        if !has(drawing, sign) {
+            continue;
+        }
+        let (form, class) = match sign {
+            Sign::Mark(shape) => (MARK_SIGN, shape_name(shape)),
+            Sign::Bar(_, class) => (BAR_SIGN, class),
+            Sign::Wild => (WILD_SIGN, ""),
+            Sign::Arrow(_, class) => (ARROW_SIGN, class),
+        };
+        let pieces = [
+            Number(across),
+            Number(down),
+            Words(class),
+            Number(down.saturating_sub(6)),
+            Number(down.saturating_add(4)),
+            Words(meaning),
+        ];
+        put(text, form, &pieces)?;
+        put(text, MEANING, &pieces)?;
+        across = across.saturating_add(APART);
+        if across >= END {
+            across = 0;
+            down = down.saturating_add(ROW);
         }
     }
     Ok(down.saturating_add(ROW))

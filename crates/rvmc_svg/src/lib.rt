@@ -9,6 +9,7 @@ mod arrows;
 mod bars;
 mod ends;
 mod fonts;
+mod forms;
 mod labels;
 mod layout;
 mod legend;

@@ -6,8 +6,9 @@ ghost use Rattle.rvmc_draw.specs.declared.drawing.Mark.{Mark as MarkView};
 ghost use Rattle.rvmc_svg.specs.Adding.{Adds};
 ghost use Rattle.rvmc_svg.specs.Shown.{HasTitle};
 
-use crate::labels::Places;
-use crate::layout::{Layout, TOP, long};
+use crate::forms::{COUNT, NOTE, ONCE, PLACE, RING, SHAPE, STEP, TIMES};
+use crate::labels::{LETTER, Places};
+use crate::layout::{Layout, TOP};
 use crate::pieces::Piece::{Across, Guest, Number, Rank, Words};
 use crate::pieces::put;
 use crate::safe::put_text;
@@ -63,7 +64,7 @@ fn room_beside(
         let letters = length.min(*most);
         // two dots stand for the rest of the note
         let dots = if letters < length { 2 } else { 0 };
-        let wide = places.letters(letters);
+        let wide = places.pixels((letters as u64).saturating_mul(LETTER));
         let beside = places.pixels(BESIDE);
         for left in [left, !left] {
             let from = if left {
@@ -81,6 +82,19 @@ fn room_beside(
     Ok(None)
 }
 
+/// Whether an arrow comes to a mark in this lane from the right.
+fn comes_from_right(layout: &Layout<'_>, mark: &Mark, at: u64) -> bool {
+    for arrow in layout.drawing.arrows.as_slice() {
+        if let Some(to) = arrow.to {
+            let from = layout.lane_at(arrow.from.rank, arrow.from.hart);
+            if to.place == mark.spot.place && from > at {
+                return true;
+            }
+        }
+    }
+    false
+}
+
 /// What is written beside a mark: to its right, or to its left where an arrow comes from the right; at the other side where
 /// there is more room.
 fn put_note(
@@ -95,7 +109,7 @@ fn put_note(
     if shown.is_empty() {
         return Ok(());
     }
-    let left = layout.comes_from_right(mark.spot);
+    let left = comes_from_right(layout, mark, at);
     let Some(room) = room_beside(places, left, at, row, shown.len())? else {
         return Ok(());
     };
@@ -112,7 +126,7 @@ fn put_note(
     let more = if letters < shown.len() { ".." } else { "" };
     put(
         text,
-        "<text class=\"{} halo wide\" font-size=\"10\" text-anchor=\"{}\" dx=\"{}{}\" dy=\"3.5\" x=\"{}\" y=\"{}\">{}{}</text>\n",
+        NOTE,
         &[
             Words(class),
             Words(anchor),
@@ -142,7 +156,7 @@ pub(crate) fn put_count(
     }
     put(
         text,
-        "<text class=\"dim halo wide\" font-size=\"10\" dx=\"-7\" text-anchor=\"end\" x=\"{}\" y=\"{}\">{} {}</text>\n",
+        COUNT,
         &[Across(at), Number(row), Number(count), Words(these)],
     )
 }
@@ -164,9 +178,6 @@ pub(crate) fn put_titled(
     Ok(())
 }
 
-/// One of the drawn shapes, in the colour of a rank.
-const USE: &str = "<use href=\"#{}\" class=\"f{}\" x=\"{}\" y=\"{}\"/>\n";
-
 /// Adds what stands behind a mark's title: how many steps it stands for, its shape, in the ring of a receive of any source if
 /// it is one, and what is written beside it; and how many steps the hart took without a mark, if they are many.
 fn put_behind(
@@ -176,52 +187,29 @@ fn put_behind(
     mark: &Mark,
     row: u64,
 ) -> io::Result<()> {
-    let at = layout.lane_of(mark.spot);
-    let rank = Rank(mark.spot.rank);
-    let end = if mark.times > 1 {
-        "\nand more of its kind: {} in a row</title>"
-    } else {
-        "</title>"
-    };
-    put(text, end, &[Number(mark.times)])?;
+    let at = layout.lane_at(mark.spot.rank, mark.spot.hart);
+    let pieces = [
+        Words(shape_name(mark.shape)),
+        Rank(mark.spot.rank),
+        Across(at),
+        Number(row),
+        Number(mark.times),
+    ];
+    put(text, if mark.times > 1 { TIMES } else { ONCE }, &pieces)?;
     if mark.wild {
-        put(text, USE, &[Words("ring"), rank, Across(at), Number(row)])?;
+        put(text, RING, &pieces)?;
     }
-    let name = Words(shape_name(mark.shape));
-    put(text, USE, &[name, rank, Across(at), Number(row)])?;
+    put(text, SHAPE, &pieces)?;
     put_note(text, places, layout, mark, at, row)?;
     put(text, "</g>\n", &[])?;
     let above = row.saturating_sub(11);
-    if mark.quiet < long(layout.drawing) || above < TOP {
+    if mark.quiet < layout.long || above < TOP {
         return Ok(());
     }
     put_count(text, places, at, above, mark.quiet, "steps")
 }
 
-/// Adds a mark, with what is told of it.
-fn put_mark(
-    alloc: Global,
-    text: &mut Vec<u8>,
-    places: &mut Places,
-    layout: &Layout<'_>,
-    mark: &Mark,
-    row: u64,
-) -> io::Result<()>
-    ensures { OnOk result (Adds text.old.items mark.now.tip.items text.new.items) }
-{
-    let mut before = Vec::new(alloc);
-    put(&mut before, "<g id=\"step{}\">", &[Number(mark.spot.place)])?;
-    let mut behind = Vec::new(alloc);
-    put_behind(&mut behind, places, layout, mark, row)?;
-    put_titled(
-        text,
-        before.as_slice(),
-        mark.tip.as_slice(),
-        behind.as_slice(),
-    )
-}
-
-/// All marks, which stand in the rows of the layout.
+/// All marks, which stand in the rows of the layout, each with what is told of it.
 pub(crate) fn all_marks(
     alloc: Global,
     places: &mut Places,
@@ -233,9 +221,14 @@ pub(crate) fn all_marks(
     let mut text = Vec::new(alloc);
     let mut number: usize = 0;
     for mark in marks {
-        let row = layout.rows.get(number).copied().unwrap_or(0);
-        put_mark(alloc, &mut text, places, layout, mark, row)?;
+        let row = layout.rows.as_slice().get(number).copied().unwrap_or(0);
         number = number.saturating_add(1);
+        let mut before = Vec::new(alloc);
+        put(&mut before, STEP, &[Number(mark.spot.place)])?;
+        let mut behind = Vec::new(alloc);
+        put_behind(&mut behind, places, layout, mark, row)?;
+        let tip = mark.tip.as_slice();
+        put_titled(&mut text, before.as_slice(), tip, behind.as_slice())?;
     }
     Ok(text)
 }
@@ -250,7 +243,7 @@ pub(crate) fn put_places(text: &mut Vec<u8>, layout: &Layout<'_>) -> io::Result<
     let mut first: u64 = 0;
     let mut second: u64 = 0;
     for mark in layout.drawing.marks.as_slice() {
-        let row = layout.rows.get(number).copied().unwrap_or(0);
+        let row = layout.rows.as_slice().get(number).copied().unwrap_or(0);
         number = number.saturating_add(1);
         let (class, across) = if row >= first.saturating_add(PLACES_APART) {
             first = row;
@@ -261,17 +254,9 @@ pub(crate) fn put_places(text: &mut Vec<u8>, layout: &Layout<'_>) -> io::Result<
         } else {
             continue;
         };
-        let down = row.saturating_add(3);
-        put(
-            text,
-            "<text class=\"{}\" font-size=\"10\" x=\"{}\" y=\"{}\">{}</text>\n",
-            &[
-                Words(class),
-                Number(across),
-                Number(down),
-                Number(mark.spot.place),
-            ],
-        )?;
+        let down = Number(row.saturating_add(3));
+        let place = Number(mark.spot.place);
+        put(text, PLACE, &[Words(class), Number(across), down, place])?;
     }
     Ok(())
 }

@@ -36,18 +36,18 @@ fn put_piece(text: &mut Vec<u8>, piece: Piece<'_>) -> io::Result<()> {
     }
 }
 
-/// Adds a form, where each `{}` is the next of these pieces.
+/// Adds a form, where each `{N}` is the piece with this number, from 0 to 9.
 pub(crate) fn put(text: &mut Vec<u8>, form: &str, pieces: &[Piece<'_>]) -> io::Result<()> {
-    let mut pieces = pieces.iter();
+    let mut is_number = false;
     for byte in form.as_bytes() {
-        match *byte {
-            b'{' => {
-                if let Some(piece) = pieces.next() {
-                    put_piece(text, *piece)?;
-                }
-            }
-            b'}' => {}
-            _ => text.push(*byte)?,
+        if *byte == b'{' {
+            is_number = true;
+        } else if *byte == b'}' {
+            is_number = false;
+        } else if !is_number {
+            text.push(*byte)?;
+        } else if let Some(piece) = pieces.get(usize::from(byte.saturating_sub(b'0'))) {
+            put_piece(text, *piece)?;
         }
     }
     Ok(())

@@ -20,15 +20,6 @@ fn safe_byte(byte: u8) -> u8
     }
 }
 
-/// Adds the safe byte.
-#[tactic(auto, unfolding(crate::specs::Adding::safe_one))]
-fn put_one(text: &mut Vec<u8>, byte: u8) -> io::Result<()>
-    ensures { OnOk result (text.new.items ≡ text.old.items ++ safe_one byte) }
-{
-    text.push(safe_byte(byte))?;
-    Ok(())
-}
-
 /// Adds a byte, escaped where it would be markup (XML 1.0, 2.4).
 #[tactic(auto, unfolding(crate::specs::Escaped::escaped))]
 fn put_byte(text: &mut Vec<u8>, byte: u8) -> io::Result<()>
@@ -59,7 +50,7 @@ pub(crate) fn put_safe(text: &mut Vec<u8>, bytes: &[u8]) -> io::Result<()>
     ensures { OnOk result (text.new.items ≡ text.old.items ++ flat_map safe_one bytes.now) }
 {
     for byte in bytes {
-        put_one(text, *byte)?;
+        text.push(safe_byte(*byte))?;
     }
     Ok(())
 }

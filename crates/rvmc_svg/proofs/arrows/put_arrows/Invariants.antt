@@ -1,6 +1,6 @@
 use Rattle.std.specs.Prelude.{take}
 use Rattle.rvmc_svg.specs.Adding.{AddsWanted}
-use Rattle.rvmc_svg.proofs.arrows.put_those.Given as goal
+use Rattle.rvmc_svg.proofs.arrows.put_arrows.Given as goal
 
 -- those so far
 abbrev pub invariant-loop-arrow : goal.invariant-loop-arrow
