@@ -2,9 +2,7 @@
 use Rattle.std.proofs.Common.{◌≡◌, ◌∙◌, ℕ, List, [], ◌++◌, Option, Some, None, ap, append-nil, false, refl, sym}
 use Rattle.std.specs.Io.KnownBytes.{Appends, Keeps}
 use Rattle.rvmc_hints.specs.HintLines.{AppendsHint, IsHint}
-use Rattle.rvmc_report.specs.Faults.{fault_status}
-use Rattle.rvmc_report.specs.declared.faults.Fault.{Fault}
-use Rattle.rvmc_report.specs.declared.faults.Fault.TheVariants.{Memory}
+use Rattle.rvmc_answers.specs.Below.{Fault, Memory, fault_status}
 use Rattle.rvmc_advice.specs.Quiet.{is_quiet}
 
 -- each fault has a line

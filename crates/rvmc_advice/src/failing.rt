@@ -2,12 +2,12 @@
 
 ghost use Rattle.std.specs.Prelude.{◌≡◌, ◌≢◌, false};
 ghost use Rattle.rvmc_advice.specs.Quiet.{is_quiet};
-ghost use Rattle.rvmc_report.specs.Faults.{fault_status};
+ghost use Rattle.rvmc_answers.specs.Below.{fault_status};
 
 use crate::hints::{put_hint, tell_hint};
+use rvmc_answers::faults::Fault;
 use rvmc_hints::Hint;
 use rvmc_line::CommandLine;
-use rvmc_report::faults::Fault;
 use std::alloc::Global;
 use std::io::Write;
 

@@ -7,13 +7,13 @@ use cl_debug::DebugFault;
 use cl_text::RecordFault;
 use rv_image::read_image;
 use rv_image_types::{Image, Symbol};
+use rvmc_answers::faults::{DrawRefusal, ExploreRefusal, Fault};
 use rvmc_answers::image_in;
 use rvmc_hints::{
     Hint, Wanted, content_hint, is_near, magic_hint, plans_hint, short_hint, source_hint,
 };
 use rvmc_line::{CommandLine, ImageCommand, RecordCommand};
 use rvmc_places::{line_named, line_start};
-use rvmc_report::faults::{DrawRefusal, ExploreRefusal, Fault};
 use rvmc_words::{DebugWord, DebugWords, Numbers, Spot};
 use std::alloc::Global;
 use std::io::Write;

@@ -13,8 +13,7 @@ use Rattle.rv_asm_tokens.specs.declared.fault.AsmFaultKind.TheVariants as kinds
 use Rattle.rv_image_types.specs.declared.images.ImageParts.{ImageParts}
 use Rattle.rvmc_answers.specs.Images.{source_image}
 use Rattle.rvmc_answers.specs.Taking.{IsFaultIn}
-use Rattle.rvmc_report.specs.Faults.{fault_of_kind, fault_of_source}
-use Rattle.rvmc_report.specs.declared.faults.Fault.{Fault}
+use Rattle.rvmc_inspect.specs.Below.{Fault, fault_of_kind, fault_of_source}
 
 -- what the assembler answers, with its fault as it is told
 abbrev pub told_meaning : Result ImageParts AsmFault → Result ImageParts Fault

@@ -1,6 +1,6 @@
 -- How an answer ends.
 use Rattle.std.specs.Prelude.{◌≡◌, ℕ, List, []}
-use Rattle.rvmc_report.specs.Faults.{fault_status}
+use Rattle.rvmc_inspect.specs.Below.{fault_status}
 use Rattle.rvmc_answers.specs.declared.answers.End.{End}
 use Rattle.rvmc_answers.specs.declared.answers.End.TheVariants.{Cut, Status}
 

@@ -6,9 +6,8 @@ use Rattle.rv_asm.specs.Source.{meaning}
 use Rattle.rv_asm_tokens.specs.declared.fault.AsmFaultKind.TheVariants as kinds
 use Rattle.rv_image.specs.Reading.{reading}
 use Rattle.rv_image_types.specs.declared.images.ImageParts.{ImageParts}
-use Rattle.rvmc_report.specs.Faults.{fault_of_image, fault_of_source}
-use Rattle.rvmc_report.specs.declared.faults.Fault.{Fault}
-use Rattle.rvmc_report.specs.declared.faults.Fault.TheVariants as faults
+use Rattle.rvmc_inspect.specs.Below.{Fault, fault_of_image, fault_of_source}
+use Rattle.rvmc_inspect.specs.Below.faults
 
 -- the fault of bytes that aren't UTF-8: a Token at the line of the first wrong byte
 abbrev pub wrong_bytes : List ℕ → Fault

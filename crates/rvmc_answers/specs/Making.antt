@@ -1,8 +1,7 @@
 -- How an answer to an image ends, and its faults.
 use Rattle.std.specs.Prelude.{⊤}
-use Rattle.rvmc_report.specs.declared.faults.ExploreRefusal.{ExploreRefusal}
-use Rattle.rvmc_report.specs.declared.faults.Fault.{Fault}
-use Rattle.rvmc_report.specs.declared.faults.Fault.TheVariants as faults
+use Rattle.rvmc_inspect.specs.Below.{ExploreRefusal, Fault}
+use Rattle.rvmc_inspect.specs.Below.faults
 use Rattle.rvmc_answers.specs.declared.answers.End.{End}
 use Rattle.rvmc_answers.specs.declared.answers.End.TheVariants.{Cut, Status}
 

@@ -1,8 +1,8 @@
 -- How a command takes its image from the input.
 use Rattle.std.specs.Prelude.{◌≡◌, ⊤, Result, Ok, Err}
 use Rattle.rv_image_types.specs.declared.images.ImageParts.{ImageParts}
-use Rattle.rvmc_report.specs.declared.faults.Fault.{Fault}
-use Rattle.rvmc_report.specs.declared.faults.Fault.TheVariants as faults
+use Rattle.rvmc_inspect.specs.Below.{Fault}
+use Rattle.rvmc_inspect.specs.Below.faults
 
 -- the fault of the input, unless memory was refused
 abbrev pub IsFaultIn : Result ImageParts Fault → Fault → Type 0

@@ -1,8 +1,7 @@
 -- What harts wait for at a place of a run.
 use Rattle.std.specs.Prelude.{◌≤◌, ℕ, Bool, List, length}
 use Rattle.cl_machine.specs.declared.steps.Step.{Step}
-use Rattle.cl_replay.specs.Replaying.{IsReached}
-use Rattle.cl_replay.specs.declared.states.ClusterState.{ClusterState}
+use Rattle.rvmc_inspect.specs.Below.{ClusterState, IsReached}
 use Rattle.rv_image_types.specs.Image.{IsImage}
 use Rattle.rv_image_types.specs.declared.images.ImageParts.{ImageParts}
 use Rattle.rvmc_inspect.specs.Why.{IsWhy}

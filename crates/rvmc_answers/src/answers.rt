@@ -6,7 +6,7 @@ ghost use Rattle.rvmc_answers.specs.Outputs.{output_bytes};
 ghost use Rattle.rvmc_answers.specs.declared.answers.End.TheVariants.{Status};
 
 use crate::outputs::Output;
-use rvmc_report::faults::Fault;
+use rvmc_inspect::faults::Fault;
 
 /// How an answer ends: with a status, or cut short by a fault, whose line then stands on standard error and whose
 /// status is the answer's.

@@ -8,7 +8,7 @@ ghost use Rattle.rvmc_answers.specs.Taking.{Reads};
 use rv_asm::{AsmFault, AsmFaultKind, assemble};
 use rv_image::read_image;
 use rv_image_types::Image;
-use rvmc_report::faults::Fault;
+use rvmc_inspect::faults::Fault;
 use std::alloc::Global;
 
 /// The number, from 1, of the line that follows these bytes.

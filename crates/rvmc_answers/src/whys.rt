@@ -1,13 +1,12 @@
 //! What harts wait for at a place of a run.
 
 ghost use Rattle.std.specs.Prelude.{IfErr, IfOk};
-ghost use Rattle.cl_replay.specs.InnerReplaying.{ReplayFaultHolds};
+ghost use Rattle.rvmc_inspect.specs.Below.{ReplayFaultHolds};
 ghost use Rattle.rvmc_answers.specs.Whys.{IsWhyAt};
 
 use cl_machine::Step;
-use cl_replay::{ReplayFault, replay};
 use rv_image_types::Image;
-use rvmc_inspect::why;
+use rvmc_inspect::{ReplayFault, replay, why};
 use std::alloc::Global;
 
 /// What the harts wait for where the first steps lead, so many, and with `framed` the calls that led there.

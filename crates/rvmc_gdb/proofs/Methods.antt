@@ -15,8 +15,7 @@ use Rattle.cl_debug.specs.declared.faults.DebugFault.{DebugFault}
 use Rattle.cl_debug.specs.declared.faults.DebugFault.TheVariants as faults
 use Rattle.rvmc_words.specs.declared.debug.DebugWord.{DebugWord}
 use Rattle.rvmc_words.specs.declared.debug.DebugWord.TheVariants as word
-use Rattle.rvmc_inspect.specs.Words.{Does, Refuses}
-use Rattle.rvmc_inspect.specs.Why.{IsWhy}
+use Rattle.rvmc_picture.specs.Below.{Does, IsWhy, Refuses}
 use Rattle.rvmc_motions.specs.declared.marks.Mark.{Mark}
 use Rattle.rvmc_gdb.specs.Points.{Inserts, IsOwner, Sets, can_add, has_mark, marks_with, with_marks}
 use Rattle.rvmc_gdb.specs.Serving.{Serving, done, refused}

@@ -7,7 +7,7 @@ use Rattle.rvmc_draw.specs.declared.drawing.Arrow.{Arrow}
 use Rattle.rvmc_draw.specs.declared.drawing.Carried.{Carried}
 use Rattle.rvmc_draw.specs.declared.drawing.Carried.TheVariants.{Message, Could, Claim, Partition}
 use Rattle.rvmc_draw.specs.declared.drawing.Spot.{Spot}
-use Rattle.rvmc_inspect.specs.Below.{newline}
+use Rattle.rvmc_picture.specs.Below.{newline}
 use Rattle.rvmc_protocol.specs.Replies.Threads.{name_text}
 use Rattle.rvmc_gdb.specs.declared.ends.Found.{Found}
 use Rattle.rvmc_gdb.specs.declared.ends.Side.{Side}

@@ -14,7 +14,7 @@ use Rattle.rvmc_motions.specs.declared.marks.Mover.{Mover}
 use Rattle.rvmc_motions.specs.Motions.{GoesBackwards}
 use Rattle.rvmc_protocol.specs.declared.replies.stops.Stop.{Stop}
 use Rattle.rvmc_protocol.specs.declared.replies.stops.Stop.TheVariants as stops
-use Rattle.rvmc_inspect.specs.Below.{newline}
+use Rattle.rvmc_picture.specs.Below.{newline}
 use Rattle.rvmc_words.specs.declared.debug.Spot.{Spot}
 use Rattle.rvmc_words.specs.declared.debug.Spot.TheVariants.{Address, Line, Name}
 use Rattle.rvmc_gdb.specs.declared.ends.Found.{Found}

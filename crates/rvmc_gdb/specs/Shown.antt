@@ -13,7 +13,7 @@ use Rattle.cl_replay.specs.Replaying.{IsReached}
 use Rattle.cl_replay.specs.declared.states.ClusterState.{ClusterState}
 use Rattle.cl_debug.specs.Debugging.{Debugging}
 use Rattle.cl_debug.specs.Shown.{IsOutside, ShowsBytes, ShowsHart}
-use Rattle.rvmc_inspect.specs.Texts.{hart_waits_text}
+use Rattle.rvmc_picture.specs.Below.{hart_waits_text}
 use Rattle.rvmc_protocol.specs.Replies.Digits.{register_text}
 use Rattle.rvmc_protocol.specs.Replies.Parts.{part_of}
 use Rattle.rvmc_protocol.specs.Replies.Threads.{name_text, named_text}

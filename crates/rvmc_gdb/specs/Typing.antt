@@ -15,9 +15,7 @@ use Rattle.rvmc_protocol.specs.Monitor.Typed.{typed_word}
 use Rattle.rvmc_protocol.specs.declared.monitor.typed.Typed.{Typed}
 use Rattle.rvmc_protocol.specs.declared.monitor.typed.Typed.TheVariants.{Help, Why, Rank, Go, Place, Regs, Bytes}
 use Rattle.rvmc_protocol.specs.declared.monitor.typed.Typed.TheVariants.{Sent, Got, LastWrite, Unknown}
-use Rattle.rvmc_inspect.specs.Below.{newline}
-use Rattle.rvmc_inspect.specs.Why.{IsWhy}
-use Rattle.rvmc_inspect.specs.Words.{Does, IsSpot, IsUnknown, Refuses}
+use Rattle.rvmc_picture.specs.Below.{Does, IsSpot, IsUnknown, IsWhy, Refuses, newline}
 use Rattle.rvmc_motions.specs.declared.marks.Mark.{Mark}
 use Rattle.rvmc_motions.specs.declared.marks.Motion.TheVariants as motions
 use Rattle.rvmc_motions.specs.declared.marks.Mover.{Mover}

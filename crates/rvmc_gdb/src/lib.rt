@@ -17,6 +17,7 @@ mod session;
 mod shown;
 mod typing;
 
+pub use rvmc_picture::{faults, tell_all};
 pub use server::{Flow, Server};
 pub use session::Session;
 pub use typing::refusal;

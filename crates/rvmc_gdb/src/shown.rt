@@ -17,7 +17,7 @@ use cl_state::RankState;
 use rv_decode::Reg;
 use rv_hart::Hart;
 use rv_image_types::Symbol;
-use rvmc_inspect::put_harts;
+use rvmc_picture::put_harts;
 use rvmc_protocol::replies::{description, put_bytes, put_name, put_named, put_part, put_register};
 use std::alloc::{AllocError, Global};
 use std::io;

@@ -3,7 +3,7 @@
 ghost use Rattle.std.specs.Prelude.{◌≡◌, ◌≢◌, ◌<◌, [], IfErr, IfOk, OnOk, length};
 ghost use Rattle.cl_debug.specs.declared.faults.DebugFault.TheVariants as faults;
 ghost use Rattle.rvmc_words.specs.declared.debug.DebugWord.TheVariants as word;
-ghost use Rattle.rvmc_inspect.specs.Words.{Refuses, TellsBytes, WantsMemory};
+ghost use Rattle.rvmc_picture.specs.Below.{Refuses, TellsBytes, WantsMemory};
 ghost use Rattle.rvmc_gdb.specs.Ends.{arrow_text, nothing_text};
 ghost use Rattle.rvmc_gdb.specs.Finding.{TellsGoal};
 ghost use Rattle.rvmc_gdb.specs.Typing.{fault_text, flush_text, help_text, printed_text, unchanged_text, unknown_text};
@@ -15,8 +15,8 @@ use crate::session::{Goal, Session, Who, text_of};
 use crate::shown::digits_of;
 use cl_debug::{DebugFault, Debugger};
 use rvmc_draw::Arrow;
-use rvmc_inspect::{address_of, bytes_text, place_text, regs_text, why};
 use rvmc_motions::{Mark, Motion, Mover, Ranks};
+use rvmc_picture::{address_of, bytes_text, place_text, regs_text, why};
 use rvmc_protocol::monitor::{Typed, typed_word};
 use rvmc_protocol::requests::Point;
 use rvmc_words::Spot;

@@ -1,2 +1,3 @@
 -- What crates above this one name of those below it.
-pub use Rattle.cl_debug.proofs.Ranks.{run_sized}
+pub use Rattle.rvmc_report.proofs.Below.{run_sized, state_there}
+pub use Rattle.rvmc_report.proofs.Digits.{flat_map-range_more, padded_by_zeros}

@@ -2,7 +2,7 @@
 use Rattle.std.specs.Prelude.{ℕ, ◌≡◌, ◌+◌, ◌<◌, ◌++◌, List, [], ◌∷◌, length, take}
 use Rattle.std.proofs.Common.{◌∙◌, ap, append-nil, append_assoc, get_or, refl, subst, sym}
 use Rattle.std.proofs.lemmas.List.{take_more}
-use Rattle.cl_debug.specs.Debugging.{Debugging}
+use Rattle.rvmc_report.specs.Below.{Debugging}
 use Rattle.rvmc_words.specs.declared.debug.DebugWord.{DebugWord}
 use Rattle.rvmc_inspect.specs.Words.{Does, Walks}
 

@@ -8,7 +8,7 @@ use Rattle.mp_hub.specs.Hub.{HubView}
 use Rattle.part_box.specs.declared.settled.Settled.{Settled}
 use Rattle.cl_state.specs.declared.state.RankState.{RankState}
 use Rattle.cl_state.specs.Room.{rank_of}
-use Rattle.cl_replay.specs.declared.states.ClusterState.{ClusterState}
+use Rattle.rvmc_report.specs.Below.{ClusterState}
 use Rattle.cl_deadlock.specs.Why.{IsDeadlockVerdict}
 use Rattle.rvmc_report.specs.Report.{newline}
 use Rattle.rvmc_inspect.specs.Texts.{hart_waits_text}

@@ -3,11 +3,9 @@ use Rattle.std.specs.Prelude.{ℕ, ◌≡◌, ◌≢◌, ◌<◌, ◌≤◌, ◌
 use Rattle.std.specs.Prelude.{Option, None, Some}
 use Rattle.rv_hart.specs.State.{State}
 use Rattle.rv_image_types.specs.declared.images.ImageParts.{ImageParts}
-use Rattle.cl_debug.specs.Debugging.{Debugging, at_place, with_break}
-use Rattle.cl_debug.specs.Moves.{MovedBack, MovedOn, RanOn}
-use Rattle.cl_debug.specs.Shown.{HasNoSymbol, IsOutside, IsSymbolOf, ShowsBytes, ShowsHart, ShowsRank}
-use Rattle.cl_debug.specs.declared.faults.DebugFault.{DebugFault}
-use Rattle.cl_debug.specs.declared.faults.DebugFault.TheVariants as faults
+use Rattle.rvmc_report.specs.Below.{DebugFault, Debugging, HasNoSymbol, IsOutside, IsSymbolOf, MovedBack, MovedOn}
+use Rattle.rvmc_report.specs.Below.{RanOn, ShowsBytes, ShowsHart, ShowsRank, at_place, with_break}
+use Rattle.rvmc_report.specs.Below.debug as faults
 use Rattle.rvmc_words.specs.declared.debug.DebugWord.{DebugWord}
 use Rattle.rvmc_words.specs.declared.debug.DebugWord.TheVariants.{Back, Break, Bytes, Frames, Go, Output, Place, Regs, Run, Step}
 use Rattle.rvmc_words.specs.declared.debug.Spot.{Spot}

@@ -17,8 +17,12 @@ mod words;
 
 pub use awaited::{Wait, wait_text};
 pub use calls::call_name;
+pub use cl_deadlock::deadlock;
 pub use finding::waits;
 pub use harts::put_harts;
+pub use rvmc_report::{
+    ClusterState, ReplayFault, faults, input, listing, recorded, replay, report, stuck, verdicts,
+};
 pub use telling::{put_company, why};
 pub use unreceived::put_unreceived;
 pub use word_texts::{bytes_text, place_text, regs_text};

@@ -7,8 +7,8 @@ ghost use Rattle.rvmc_inspect.specs.Why.{IsWhy, all_harts_text, company_text, co
 use crate::harts::put_harts;
 use crate::unreceived::put_unreceived;
 use cl_deadlock::deadlock;
-use cl_replay::ClusterState;
 use rv_image_types::Image;
+use rvmc_report::ClusterState;
 use std::alloc::{AllocError, Global};
 
 /// Adds the lines of the harts of all ranks, in their order.

@@ -1,16 +1,16 @@
 //! The words, done one after another.
 
 ghost use Rattle.std.specs.Prelude.{◌≡◌, ◌≢◌, ◌<◌, ◌++◌, IfErr, IfOk, List, OnErr, OnOk, length, ℕ};
-ghost use Rattle.cl_debug.specs.declared.faults.DebugFault.TheVariants.{Memory, NoSymbol};
+ghost use Rattle.rvmc_report.specs.Below.{Memory, NoSymbol};
 ghost use Rattle.rvmc_words.specs.declared.debug.DebugWord.TheVariants as word;
 ghost use Rattle.rvmc_inspect.specs.Words.{AddsBreak, AreStops, Does, IsSpot, IsTextOfWords, IsUnknown, Refuses, StopsAt, TellsBytes};
 ghost use Rattle.rvmc_inspect.specs.Words.{TellsFrames, TellsOutput, TellsPlace, TellsRegs, WantsMemory, with_breaks};
 ghost use Rattle.rvmc_places.specs.Places.{line_start, line_starts};
 
 use crate::word_texts::{bytes_text, frames_text, output_text, place_text, regs_text};
-use cl_debug::{DebugFault, Debugger};
 use rv_image_types::Symbol;
 use rvmc_places::{line_start, line_starts};
+use rvmc_report::{DebugFault, Debugger};
 use rvmc_words::{DebugWord, Name, Spot};
 use std::alloc::{AllocError, Global};
 

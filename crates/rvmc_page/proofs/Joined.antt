@@ -8,7 +8,7 @@ use Rattle.std.proofs.lemmas.List.Folds.{flat_map-map}
 use Rattle.rvmc_changes.specs.Given.{difference_in}
 use Rattle.rvmc_changes.specs.Given.{differences}
 use Rattle.rvmc_changes.specs.declared.steps.Change.{Change}
-use Rattle.rvmc_report.proofs.Digits.{flat_map-range_more}
+use Rattle.rvmc_picture.proofs.Below.{flat_map-range_more}
 use Rattle.rvmc_page.specs.Starts.{row_line, row_text}
 use Rattle.rvmc_page.specs.Steps.{change_text, changes_text}
 

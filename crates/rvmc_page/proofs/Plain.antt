@@ -20,9 +20,7 @@ use Rattle.rvmc_draw.specs.declared.drawing.Carried.{Carried}
 use Rattle.rvmc_draw.specs.declared.drawing.Carried.TheVariants.{Message, Claim, Could, Partition}
 use Rattle.rvmc_draw.specs.declared.drawing.Row.{Row}
 use Rattle.rvmc_draw.specs.declared.drawing.Spot.{Spot}
-use Rattle.rvmc_picture.specs.Below.{padded_hex}
-use Rattle.rvmc_report.specs.Listing.{listing}
-use Rattle.rvmc_report.specs.Report.{newline}
+use Rattle.rvmc_picture.specs.Below.{listing, newline, padded_hex}
 use Rattle.rvmc_page.specs.Escaped.{hex_pairs, spelled_byte, escaped_in_lines, is_unescaped}
 use Rattle.rvmc_page.specs.Pages.{awaited_text, data_of, ways_text, told_lines}
 use Rattle.rvmc_page.specs.Plain.{IsPlain}

@@ -4,7 +4,7 @@ use Rattle.std.specs.Fmt.{decimal}
 use Rattle.std.specs.List.{flat_map}
 use Rattle.rv_image_types.specs.declared.images.ImageParts.{ImageParts}
 use Rattle.rvmc_changes.specs.Changes.{Difference}
-use Rattle.rvmc_report.specs.Report.{newline}
+use Rattle.rvmc_picture.specs.Below.{newline}
 use Rattle.rvmc_page.specs.Starts.{starts_text}
 use Rattle.rvmc_page.specs.Steps.{changes_text}
 use Rattle.rvmc_page.specs.Texts.{texts_text}

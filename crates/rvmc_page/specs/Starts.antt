@@ -9,7 +9,7 @@ use Rattle.rv_memory.specs.Fault.{cause_number}
 use Rattle.rvmc_changes.specs.declared.steps.Stand.{Stand}
 use Rattle.rvmc_changes.specs.declared.starts.HartStart.{HartStart}
 use Rattle.rvmc_changes.specs.declared.starts.RankStart.{RankStart}
-use Rattle.rvmc_report.specs.Report.{newline}
+use Rattle.rvmc_picture.specs.Below.{newline}
 use Rattle.rvmc_page.specs.Escaped.{hex_pairs}
 
 abbrev pub hex : ℕ → List ℕ

@@ -4,7 +4,7 @@ use Rattle.std.specs.Fmt.{decimal}
 use Rattle.std.specs.List.{flat_map}
 use Rattle.rvmc_changes.specs.Changes.{Difference}
 use Rattle.rvmc_changes.specs.declared.edits.Edit.{Edit}
-use Rattle.rvmc_report.specs.Report.{newline}
+use Rattle.rvmc_picture.specs.Below.{newline}
 use Rattle.rvmc_page.specs.Escaped.{hex_pairs}
 use Rattle.rvmc_page.specs.Starts.{hex, stand_text}
 

@@ -2,7 +2,7 @@
 -- spelled there.
 use Rattle.std.specs.Prelude.{ℕ, List, [], ◌∷◌, ◌++◌, codes, if◌then◌else◌, nat_eq}
 use Rattle.std.specs.List.{ends_with, flat_map}
-use Rattle.rvmc_report.specs.Report.{newline}
+use Rattle.rvmc_picture.specs.Below.{newline}
 use Rattle.rvmc_page.specs.Escaped.{escaped_in_lines, spelled_byte}
 use Rattle.rvmc_page.specs.declared.texts.SourceText.{SourceText}
 

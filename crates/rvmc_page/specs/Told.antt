@@ -9,8 +9,7 @@ use Rattle.rvmc_draw.specs.declared.drawing.Carried.{Carried}
 use Rattle.rvmc_draw.specs.declared.drawing.Carried.TheVariants.{Message, Claim, Could, Partition}
 use Rattle.rvmc_draw.specs.declared.drawing.Row.{Row}
 use Rattle.rvmc_draw.specs.declared.drawing.Spot.{Spot}
-use Rattle.rvmc_report.specs.Listing.{listing}
-use Rattle.rvmc_report.specs.Report.{newline}
+use Rattle.rvmc_picture.specs.Below.{listing, newline}
 use Rattle.rvmc_page.specs.Escaped.{spelled_byte, escaped_in_lines}
 use Rattle.rvmc_page.specs.Starts.{hex}
 

@@ -24,4 +24,5 @@ mod writing;
 
 pub use pages::{Page, Part, Shown};
 pub use records::{PageFault, page};
+pub use rvmc_picture::{DrawFault, drawing};
 pub use texts::SourceText;

@@ -9,7 +9,7 @@ ghost use Rattle.rvmc_page.specs.Told.{wait_entry, wait_entries, way_text};
 use crate::safe::{put_escaped, put_lines};
 use rv_image_types::{Image, Symbol};
 use rvmc_draw::{Arrow, Carried, Row, Spot};
-use rvmc_report::listing::listing;
+use rvmc_picture::listing::listing;
 use std::alloc::Global;
 use std::io;
 use std::io::Write;

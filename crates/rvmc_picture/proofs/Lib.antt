@@ -1,3 +1,4 @@
 pub mod Putting
 pub mod Runs
 pub mod Told
+pub mod Below

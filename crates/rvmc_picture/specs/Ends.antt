@@ -4,16 +4,13 @@ use Rattle.std.specs.Prelude.{Option, Some, None, option_map}
 use Rattle.std.specs.List.{flat_map, list_any, range_with_len}
 use Rattle.rv_hart.specs.State.{State}
 use Rattle.rv_image_types.specs.declared.images.ImageParts.{ImageParts}
-use Rattle.cl_deadlock.specs.Why.{IsDeadlockVerdict}
 use Rattle.cl_replay.specs.declared.states.ClusterState.{ClusterState}
 use Rattle.cl_state.specs.Room.{rank_of}
 use Rattle.cl_state.specs.declared.state.RankState.{RankState}
 use Rattle.rvmc_draw.specs.declared.drawing.Drawing.{Drawing}
 use Rattle.rvmc_draw.specs.declared.drawing.Row.{Row}
-use Rattle.rvmc_inspect.specs.Waits.{waits}
-use Rattle.rvmc_inspect.specs.Why.{IsWhy}
-use Rattle.rvmc_inspect.specs.declared.awaited.Wait.{Wait}
-use Rattle.rvmc_inspect.specs.declared.awaited.Wait.TheVariants as wait
+use Rattle.rvmc_sights.specs.Below.{IsDeadlockVerdict, IsWhy, Wait, waits}
+use Rattle.rvmc_sights.specs.Below.wait
 use Rattle.rvmc_picture.specs.Deeds.{is_in_wait}
 
 -- ---- whom a hart waits for

@@ -8,12 +8,11 @@ ghost use Rattle.rvmc_picture.specs.Ends.{could_bring as could_bring_of, hart_ro
 ghost use Rattle.rvmc_picture.specs.Ends.{is_stuck as is_stuck_in, rank_rows, row_if, waits_at, waits_if};
 
 use crate::deeds::is_waiting;
-use cl_deadlock::deadlock;
 use cl_replay::ClusterState;
 use cl_state::RankState;
 use rv_image_types::{Image, ImageParts};
 use rvmc_draw::Row;
-use rvmc_inspect::{Wait, waits, why};
+use rvmc_sights::{Wait, deadlock, waits, why};
 use std::alloc::{AllocError, Global};
 
 /// Whether what is waited for could come from a rank.

@@ -11,4 +11,7 @@ mod pictures;
 mod walking;
 
 pub use pictures::{DrawFault, arrows, drawing};
-pub use rvmc_sights::put_piece;
+pub use rvmc_sights::{
+    address_of, bytes_text, faults, listing, place_text, put_company, put_harts, put_piece,
+    regs_text, tell_all, why,
+};

@@ -3,3 +3,4 @@ pub mod Ends
 pub mod Known
 pub mod Names
 pub mod Reached
+pub mod Below

@@ -9,3 +9,4 @@ pub mod Input
 pub mod Verdicts
 pub mod Recorded
 pub mod RecordedLaws
+pub mod Below

@@ -10,3 +10,6 @@ pub mod recorded;
 pub mod report;
 pub mod stuck;
 pub mod verdicts;
+
+pub use cl_debug::{DebugFault, Debugger};
+pub use cl_replay::{ClusterState, ReplayFault, replay};

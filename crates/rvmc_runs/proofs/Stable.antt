@@ -8,7 +8,7 @@ use Rattle.cl_record.specs.declared.records.RunFault.{RunFault}
 use Rattle.cl_record.specs.declared.records.RunFault.TheVariants as run
 use Rattle.rv_image_types.specs.declared.images.ImageParts.{ImageParts}
 use Rattle.rvmc_answers.specs.Making.{IsRunFault}
-use Rattle.rvmc_report.specs.OtherFaults.{fault_of_run}
+use Rattle.rvmc_answers.specs.Below.{fault_of_run}
 
 -- what can't be otherwise is so
 abbrev IsStable : Type 0 → Type 0

@@ -5,7 +5,7 @@ use Rattle.cl_record.specs.declared.records.Record.{Record}
 use Rattle.rv_image_types.specs.Image.{IsImage}
 use Rattle.rv_image_types.specs.declared.images.ImageParts.{ImageParts}
 use Rattle.rvmc_line.specs.declared.line.Written.{Written}
-use Rattle.rvmc_report.specs.WholeRecord.{HasEachRank}
+use Rattle.rvmc_answers.specs.Below.{HasEachRank}
 use Rattle.rvmc_runs.specs.Runs.{IsOne, IsOneUntilStuck, IsRunAnswer, IsThreadsUntilStuck}
 
 -- ---- runs to the end of their plans or until nobody can go on

@@ -17,8 +17,7 @@ use Rattle.cl_threads.specs.Runs.{IsThreadRun}
 use Rattle.rv_image_types.specs.declared.images.ImageParts.{ImageParts}
 use Rattle.rvmc_line.specs.declared.line.Written.{Written}
 use Rattle.rvmc_line.specs.declared.line.Written.TheVariants as written
-use Rattle.rvmc_report.specs.Report.{rank_ends, report, status_of}
-use Rattle.rvmc_report.specs.Stuck.{told_report}
+use Rattle.rvmc_answers.specs.Below.{rank_ends, report, status_of, told_report}
 use Rattle.rvmc_answers.specs.Ends.{IsFaulty}
 use Rattle.rvmc_answers.specs.Plans.{ByPlans, listed}
 use Rattle.rvmc_answers.specs.Whys.{IsWhyAt}

@@ -8,8 +8,8 @@ use cl_merge::merge;
 use cl_record::Record;
 use cl_replay::ReplayFault;
 use rv_image_types::Image;
+use rvmc_answers::report::report;
 use rvmc_answers::told_at;
-use rvmc_report::report::report;
 use std::alloc::{AllocError, Global};
 
 /// What the harts wait for where a record ends, and with `framed` the calls that led there. The record is dropped as soon

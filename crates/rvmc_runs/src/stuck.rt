@@ -3,7 +3,7 @@
 ghost use Rattle.std.specs.Prelude.{◌≡◌, IfErr, IfOk};
 ghost use Rattle.cl_record.specs.Plans.{ArePlans, HasPlans};
 ghost use Rattle.rv_image_types.specs.Image.{IsImage};
-ghost use Rattle.rvmc_report.specs.Report.{rank_ends, status_of};
+ghost use Rattle.rvmc_answers.specs.Below.{rank_ends, status_of};
 ghost use Rattle.rvmc_runs.specs.Runs.{IsRunUntilStuck, IsThreadsUntilStuckBy, IsToldReport, IsToldTextOf, is_framed};
 ghost use Rattle.rvmc_answers.specs.Ends.{end_status};
 ghost use Rattle.rvmc_runs.specs.Making.{IsLeft};
@@ -16,11 +16,11 @@ use cl_ending::{Outcome, Stuck, StuckThreads, run_one_until_stuck, run_threads_u
 use cl_record::{Plan, Record};
 use cl_threads::Pace;
 use rv_image_types::Image;
+use rvmc_answers::faults::Fault;
+use rvmc_answers::report::status;
+use rvmc_answers::stuck::told_report;
 use rvmc_answers::{Answer, End, Output};
 use rvmc_line::Written;
-use rvmc_report::faults::Fault;
-use rvmc_report::report::status;
-use rvmc_report::stuck::told_report;
 use std::alloc::{AllocError, Global};
 use std::sync::Wait;
 use std::thread::Threads;

@@ -4,7 +4,7 @@ use Rattle.std.proofs.Common.{refl, sym, ap, subst, ◌∙◌, append_assoc, ari
 use Rattle.std.proofs.lemmas.List.{append-nil, length-append}
 use Rattle.std.specs.Io.KnownBytes.{Appends, Consumes, IsAtEnd, Keeps}
 use Rattle.rvmc_gdb.proofs.Walks.{joined}
-use Rattle.rvmc_report.specs.Input.{TakesAtMost}
+use Rattle.rvmc_gdb.specs.Below.{TakesAtMost}
 use Rattle.rvmc_serve.proofs.Hearing.{appended_kept, appended_then, left_behind, piece_in, piece_short, taken_none, taken_then}
 use Rattle.rvmc_serve.specs.Typing.{EndsLine, HearsAll, HearsSome, Takes, TakesAll, Typed}
 

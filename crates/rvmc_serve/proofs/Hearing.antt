@@ -8,9 +8,8 @@ use Rattle.rvmc_gdb.proofs.Walks.{joined}
 use Rattle.rvmc_gdb.specs.Talks.{Connection, Serves, Takes, flow_of}
 use Rattle.rvmc_gdb.specs.declared.server.Flow.{Flow}
 use Rattle.rvmc_gdb.specs.declared.server.Flow.TheVariants.{Ended, On}
-use Rattle.rvmc_report.specs.Input.{TakesAtMost}
-use Rattle.rvmc_report.specs.declared.faults.Fault.{Fault}
-use Rattle.rvmc_report.specs.declared.faults.Fault.TheVariants as faults
+use Rattle.rvmc_gdb.specs.Below.{Fault, TakesAtMost}
+use Rattle.rvmc_gdb.specs.Below.faults
 use Rattle.rvmc_serve.specs.Serving.{CutsShort}
 use Rattle.rvmc_serve.specs.Sessions.{HearsPart, HearsAll, HearsSome}
 

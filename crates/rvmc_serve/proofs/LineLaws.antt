@@ -4,7 +4,7 @@ use Rattle.std.proofs.Common.{ap, subst, ◌∙◌}
 use Rattle.cl_debug.specs.Debugging.{Debugging}
 use Rattle.cl_debug.specs.declared.faults.DebugFault.{DebugFault}
 use Rattle.cl_text.specs.Reading.{reading_record}
-use Rattle.rvmc_inspect.specs.Words.{IsTextOfWords, StopsAt}
+use Rattle.rvmc_gdb.specs.Below.{IsTextOfWords, StopsAt}
 use Rattle.rvmc_serve.proofs.Answered.{front_of}
 use Rattle.rvmc_serve.specs.Laws.{LineLaw, LinesLaw}
 use Rattle.rvmc_serve.specs.Lines.{AnswersLines, AnswersWords, DebugsLine, IsWholeTyped, lines_in}

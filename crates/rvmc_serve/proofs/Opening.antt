@@ -7,16 +7,14 @@ use Rattle.cl_debug.specs.Faults.{OpenFaultHolds}
 use Rattle.cl_debug.specs.declared.faults.DebugFault.{DebugFault}
 use Rattle.cl_debug.specs.declared.faults.DebugFault.TheVariants as debug
 use Rattle.cl_machine.specs.declared.steps.Step.{Step}
-use Rattle.rvmc_gdb.specs.Below.{IsRunUpTo}
 use Rattle.cl_text.specs.ReadingAnswers.{IsFaultOf as IsRecordFaultOf}
 use Rattle.cl_text.specs.declared.faults.RecordFault.{RecordFault}
 use Rattle.cl_text.specs.declared.faults.RecordFault.TheVariants as recorded
 use Rattle.rv_image_types.specs.declared.images.ImageParts.{ImageParts}
 use Rattle.rvmc_gdb.specs.Serving.{Serving, opened}
 use Rattle.rvmc_gdb.specs.Talks.{Connection, connected}
-use Rattle.rvmc_report.specs.Faults.{fault_of_debug}
-use Rattle.rvmc_report.specs.OtherFaults.{fault_of_record}
-use Rattle.rvmc_report.specs.declared.faults.Fault.TheVariants as faults
+use Rattle.rvmc_gdb.specs.Below.{IsRunUpTo, fault_of_debug, fault_of_record}
+use Rattle.rvmc_gdb.specs.Below.faults
 use Rattle.rvmc_serve.specs.Serving.{IsFaultOf, IsOpenedAs}
 use Rattle.rvmc_serve.specs.Sessions.{IsOpened, Reading}
 

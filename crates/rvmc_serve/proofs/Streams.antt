@@ -8,8 +8,8 @@ use Rattle.cl_text.specs.Front.Input.{IsFront}
 use Rattle.cl_text.specs.Front.Laws.{EndLaw}
 use Rattle.cl_text.specs.Reading.{reading_record}
 use Rattle.rvmc_gdb.specs.Talks.{Connection}
-use Rattle.rvmc_report.specs.declared.faults.Fault.{Fault}
-use Rattle.rvmc_report.specs.declared.faults.Fault.TheVariants as faults
+use Rattle.rvmc_gdb.specs.Below.{Fault}
+use Rattle.rvmc_gdb.specs.Below.faults
 use Rattle.rvmc_serve.specs.Serving.{CutsShort, IsFaultOf, IsOpenedAs, IsOfFront}
 use Rattle.rvmc_serve.specs.Sessions.{DecidesAt, HearsAll, HearsSome, IsSession, IsStream, Reading, Writes}
 use Rattle.rvmc_serve.proofs.Ends.{end_law}

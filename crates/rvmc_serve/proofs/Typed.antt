@@ -5,11 +5,10 @@ use Rattle.std.specs.Io.KnownBytes.{Appends, Consumes}
 use Rattle.cl_debug.specs.Debugging.{Debugging}
 use Rattle.cl_text.specs.Front.Input.{IsFront}
 use Rattle.cl_machine.specs.declared.steps.Step.{Step}
-use Rattle.rvmc_gdb.specs.Below.{IsRunUpTo}
 use Rattle.cl_text.specs.Reading.{reading_record}
 use Rattle.rv_image_types.specs.declared.images.ImageParts.{ImageParts}
-use Rattle.rvmc_report.specs.declared.faults.Fault.{Fault}
-use Rattle.rvmc_report.specs.declared.faults.Fault.TheVariants as faults
+use Rattle.rvmc_gdb.specs.Below.{Fault, IsRunUpTo}
+use Rattle.rvmc_gdb.specs.Below.faults
 use Rattle.rvmc_serve.proofs.Ends.{end_law}
 use Rattle.rvmc_serve.proofs.Hearing.{appended_none, kept, left_behind}
 use Rattle.rvmc_serve.proofs.Lines.{all_lines, some_lines}

@@ -8,7 +8,7 @@ use Rattle.rv_image_types.specs.declared.images.ImageParts.{ImageParts}
 use Rattle.rvmc_gdb.specs.Answers.{most}
 use Rattle.rvmc_gdb.specs.Serving.{opened}
 use Rattle.rvmc_gdb.specs.Talks.{Converses, Talk, talk_begun}
-use Rattle.rvmc_inspect.specs.Words.{IsTextOfWords}
+use Rattle.rvmc_gdb.specs.Below.{IsTextOfWords}
 use Rattle.rvmc_protocol.specs.Monitor.Lines.{words_in}
 use Rattle.rvmc_protocol.specs.Packets.Frames.{Holds}
 use Rattle.rvmc_protocol.specs.declared.packets.reader.Message.{Message}

@@ -3,3 +3,4 @@ pub mod Serving
 pub mod Lines
 pub mod Typing
 pub mod Laws
+pub mod Below

@@ -6,16 +6,13 @@ use Rattle.cl_debug.specs.Debugging.{Debugging}
 use Rattle.cl_debug.specs.declared.faults.DebugFault.{DebugFault}
 use Rattle.cl_debug.specs.declared.faults.DebugFault.TheVariants as debug
 use Rattle.cl_machine.specs.declared.steps.Step.{Step}
-use Rattle.rvmc_gdb.specs.Below.{IsRunUpTo}
 use Rattle.cl_text.specs.Reading.{reading_record}
 use Rattle.rv_image_types.specs.declared.images.ImageParts.{ImageParts}
 use Rattle.rvmc_gdb.specs.Following.{Follows}
 use Rattle.rvmc_gdb.specs.Typing.{fault_text}
-use Rattle.rvmc_inspect.specs.Words.{StopsAt}
 use Rattle.rvmc_protocol.specs.Monitor.Lines.{words_in}
-use Rattle.rvmc_report.specs.Report.{newline}
-use Rattle.rvmc_report.specs.declared.faults.Fault.{Fault}
-use Rattle.rvmc_report.specs.declared.faults.Fault.TheVariants as faults
+use Rattle.rvmc_gdb.specs.Below.{Fault, IsRunUpTo, StopsAt, newline}
+use Rattle.rvmc_gdb.specs.Below.faults
 use Rattle.rvmc_serve.specs.Sessions.{IsStream, Reading, Refuses}
 use Rattle.rvmc_words.specs.declared.debug.DebugWord.{DebugWord}
 

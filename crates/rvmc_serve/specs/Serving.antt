@@ -4,8 +4,8 @@ use Rattle.cl_text.specs.declared.front.input.FrontFault.{FrontFault}
 use Rattle.cl_text.specs.declared.front.input.FrontFault.TheVariants as front
 use Rattle.rvmc_gdb.specs.Serving.{Serving}
 use Rattle.rvmc_gdb.specs.Talks.{Connection, connected}
-use Rattle.rvmc_report.specs.declared.faults.Fault.{Fault}
-use Rattle.rvmc_report.specs.declared.faults.Fault.TheVariants as faults
+use Rattle.rvmc_gdb.specs.Below.{Fault}
+use Rattle.rvmc_gdb.specs.Below.faults
 use Rattle.rvmc_serve.specs.Sessions.{IsOpened, Reading, Refuses}
 
 -- how a fault of the front is told

@@ -4,15 +4,13 @@ use Rattle.std.specs.Option.{unwrap_or}
 use Rattle.cl_debug.specs.declared.faults.DebugFault.TheVariants.{NoRank, NotARun}
 use Rattle.cl_text.specs.Front.End.{record_end}
 use Rattle.cl_machine.specs.declared.steps.Step.{Step}
-use Rattle.rvmc_gdb.specs.Below.{BreaksAt}
-use Rattle.rvmc_gdb.specs.Below.{IsRunUpTo}
 use Rattle.cl_text.specs.Reading.{reading_record}
 use Rattle.cl_text.specs.declared.faults.RecordFault.{RecordFault}
 use Rattle.rv_image_types.specs.declared.images.ImageParts.{ImageParts}
 use Rattle.rvmc_gdb.specs.Serving.{Serving, opened}
 use Rattle.rvmc_gdb.specs.Talks.{Connection, Serves, connected}
-use Rattle.rvmc_report.specs.declared.faults.Fault.{Fault}
-use Rattle.rvmc_report.specs.declared.faults.Fault.TheVariants as faults
+use Rattle.rvmc_gdb.specs.Below.{BreaksAt, Fault, IsRunUpTo}
+use Rattle.rvmc_gdb.specs.Below.faults
 
 -- ---- where the record ends
 

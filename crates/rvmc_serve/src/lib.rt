@@ -10,5 +10,7 @@ mod serving;
 mod typing;
 mod words;
 
+pub use rvmc_gdb::laws::heard_law;
+pub use rvmc_gdb::{Flow, Server};
 pub use serving::{Refused, serve};
 pub use words::serve_words;

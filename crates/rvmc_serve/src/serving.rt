@@ -8,16 +8,16 @@ ghost use Rattle.cl_debug.specs.declared.faults.DebugFault.TheVariants.{NoRank};
 ghost use Rattle.cl_text.specs.Reading.{reading_record};
 ghost use Rattle.rvmc_gdb.specs.Serving.{opened as opened_at};
 ghost use Rattle.rvmc_gdb.specs.Talks.{Serves, flow_of};
-ghost use Rattle.rvmc_report.specs.Input.{TakesAtMost};
-ghost use Rattle.rvmc_report.specs.declared.faults.Fault.TheVariants as faults;
+ghost use Rattle.rvmc_gdb.specs.Below.{TakesAtMost};
+ghost use Rattle.rvmc_gdb.specs.Below.faults;
 ghost use Rattle.rvmc_serve.specs.Serving.{CutsShort, IsFaultOf, IsOfFront, IsOpenedAs, fault_of_front};
 ghost use Rattle.rvmc_serve.specs.Sessions.{HearsAll, HearsSome, IsSession};
 
 use cl_debug::{DebugFault, Debugger};
 use cl_text::front::{Front, FrontFault, read_front};
 use cl_text::read_record;
+use rvmc_gdb::faults::Fault;
 use rvmc_gdb::{Flow, Server, Session};
-use rvmc_report::faults::Fault;
 use std::alloc::Global;
 use std::io::{Read, Write};
 

@@ -7,10 +7,9 @@ ghost use Rattle.rvmc_serve.specs.Serving.{CutsShort};
 
 use crate::serving::put;
 use cl_debug::{DebugFault, Debugger};
-use rvmc_gdb::refusal;
-use rvmc_inspect::tell_all;
+use rvmc_gdb::faults::Fault;
+use rvmc_gdb::{refusal, tell_all};
 use rvmc_protocol::monitor::words_in;
-use rvmc_report::faults::Fault;
 use rvmc_words::DebugWords;
 use std::alloc::{AllocError, Global};
 use std::io::Write;

@@ -3,8 +3,8 @@
 ghost use Rattle.std.specs.Prelude.{◌≡◌, ◌≢◌, ◌+◌, ◌++◌, IfErr, IfOk, List, None, Option, Some, ⊤, ℕ};
 ghost use Rattle.std.specs.Io.KnownBytes.{Appends};
 ghost use Rattle.cl_text.specs.Reading.{reading_record};
-ghost use Rattle.rvmc_report.specs.Input.{TakesAtMost};
-ghost use Rattle.rvmc_report.specs.declared.faults.Fault.TheVariants as faults;
+ghost use Rattle.rvmc_gdb.specs.Below.{TakesAtMost};
+ghost use Rattle.rvmc_gdb.specs.Below.faults;
 ghost use Rattle.rvmc_serve.specs.Lines.{IsWordSession};
 ghost use Rattle.rvmc_serve.specs.Serving.{CutsShort, IsFaultOf};
 ghost use Rattle.rvmc_serve.specs.Typing.{HearsAll, HearsSome, IsBegunAs};
@@ -14,7 +14,7 @@ use crate::typing::Typing;
 use cl_debug::Debugger;
 use cl_text::front::Front;
 use cl_text::read_record;
-use rvmc_report::faults::Fault;
+use rvmc_gdb::faults::Fault;
 use std::alloc::Global;
 use std::io::{Read, Write};
 

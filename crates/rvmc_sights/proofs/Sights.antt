@@ -3,14 +3,11 @@ use Rattle.std.specs.Prelude.{ℕ, zero, suc, ◌<◌, ◌≡◌, List, [], ◌�
 use Rattle.std.proofs.Common.{refl, sym, ap, ◌∙◌, subst, arith}
 use Rattle.std.proofs.lemmas.Option.{same_Some, slice_get_within}
 use Rattle.rv_image_types.specs.declared.images.ImageParts.{ImageParts}
-use Rattle.rvmc_inspect.proofs.Below.{run_sized}
 use Rattle.cl_machine.proofs.Tables.{run_more}
 use Rattle.cl_machine.specs.Cluster.{loaded_cluster}
 use Rattle.cl_machine.specs.declared.steps.Step.{Step}
-use Rattle.cl_replay.proofs.StatesThere.{state_there}
-use Rattle.cl_replay.specs.Replaying.{IsReached}
-use Rattle.cl_replay.specs.Steps.{Leads}
-use Rattle.cl_replay.specs.declared.states.ClusterState.{ClusterState}
+use Rattle.rvmc_inspect.proofs.Below.{run_sized, state_there}
+use Rattle.rvmc_inspect.specs.Below.{ClusterState, IsReached, Leads}
 use Rattle.cl_state.specs.Rank.{Rank}
 use Rattle.cl_state.specs.Room.{rank_of}
 use Rattle.cl_state.specs.declared.state.RankState.{RankState}

@@ -6,7 +6,7 @@ use Rattle.cl_state.specs.Rank.{Rank}
 use Rattle.cl_state.specs.Room.{rank_of}
 use Rattle.cl_state.specs.declared.state.RankState.{RankState}
 use Rattle.cl_machine.specs.declared.steps.Step.{Step}
-use Rattle.cl_replay.specs.declared.states.ClusterState.{ClusterState}
+use Rattle.rvmc_inspect.specs.Below.{ClusterState}
 use Rattle.rvmc_sights.specs.Lines.{Sight, box_met, hart_of, overflow_of}
 use Rattle.rvmc_sights.specs.declared.lines.After.{After}
 use Rattle.rvmc_sights.specs.declared.lines.Seen.{Seen}

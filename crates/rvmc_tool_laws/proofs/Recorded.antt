@@ -13,14 +13,14 @@ use Rattle.cl_text.proofs.ReadAgain.{read_again}
 use Rattle.cl_text.specs.Reading.{reading_record}
 use Rattle.cl_text.specs.declared.faults.RecordFault.{RecordFault}
 use Rattle.rv_image_types.specs.declared.images.ImageParts.{ImageParts}
-use Rattle.rvmc_runs.specs.Runs.{IsOne, IsOneUntilStuck, IsRecordOf, IsRunAnswer, IsRunBy, IsTextOf, IsThreadsUntilStuck, IsToldOfThreads}
 use Rattle.cl_record.specs.declared.plans.Plan.{Plan}
 use Rattle.rvmc_answers.specs.Ends.{IsDone, IsFaulty, end_status}
 use Rattle.rvmc_answers.specs.Images.{image_in}
-use Rattle.rvmc_views.specs.Records.{IsChecked, SaysOfRecord, SaysOfSteps}
+use Rattle.rvmc_tool.specs.Below.{IsChecked, IsOne, IsOneUntilStuck, IsRecordOf, IsRunAnswer, IsRunBy, IsTextOf}
+use Rattle.rvmc_tool.specs.Below.{IsThreadsUntilStuck, IsToldOfThreads, SaysOfRecord, SaysOfSteps}
 use Rattle.rvmc_answers.specs.declared.answers.End.{End}
 use Rattle.rvmc_tool_laws.specs.Answers.{RecordedIsGoodLaw}
-use Rattle.rvmc_runs.proofs.Reading.{ok≢err}
+use Rattle.rvmc_tool.proofs.Below.{ok≢err}
 use Rattle.rvmc_line.specs.declared.line.CommandLine.TheVariants.{OfImage}
 use Rattle.rvmc_line.specs.declared.line.ImageCommand.TheVariants.{One, OneUntilStuck, Run, RunUntilStuck}
 use Rattle.rvmc_line.specs.declared.line.RecordCommand.TheVariants.{Check}

@@ -9,7 +9,7 @@ use Rattle.cl_replay.specs.declared.checking.Verdict.TheVariants.{Good}
 use Rattle.cl_machine.specs.declared.steps.Step.{Step}
 use Rattle.cl_deadlock.specs.Why.{IsVerdictOf}
 use Rattle.rv_image_types.specs.declared.images.ImageParts.{ImageParts}
-use Rattle.rvmc_runs.specs.Runs.{IsLeftByThreads, IsTextOf, IsTold}
+use Rattle.rvmc_tool.specs.Below.{IsLeftByThreads, IsTextOf, IsTold}
 use Rattle.rvmc_tool.specs.Answers.{Says}
 use Rattle.rvmc_answers.specs.Ends.{IsDone}
 use Rattle.rvmc_answers.specs.Whys.{IsWhyAt}

@@ -23,6 +23,7 @@ use rvmc_report::report::report;
 use rvmc_tool::answers::answer_to;
 use rvmc_words::Numbers;
 use std::alloc::Global;
+use std::io::sink;
 use std::sync::Wait;
 use std::thread::Threads;
 
@@ -32,7 +33,7 @@ fn answered(alloc: Global, line: &CommandLine, bytes: &[u8]) -> Option<Answer>
     requires whole { is_written_as_made line.now ≡ false }
     ensures { IfSome result (λ answer. Says line.now bytes.now (output_bytes answer.output) (end_status answer.end)) }
 {
-    match answer_to(alloc, line, bytes) {
+    match answer_to(alloc, line, bytes, &mut sink()) {
         Ok(answer) => Some(answer),
         Err(_) => None,
     }

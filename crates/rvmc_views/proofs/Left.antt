@@ -4,8 +4,8 @@ use Rattle.std.specs.Prelude.{Option}
 use Rattle.std.specs.Io.KnownBytes.{Keeps}
 use Rattle.std.proofs.KnownBytes.{Appends-kept, Keeps-refl, Keeps-trans}
 use Rattle.rvmc_line.specs.declared.line.RecordCommand.{RecordCommand}
-use Rattle.rvmc_report.specs.declared.faults.Fault.{Fault}
-use Rattle.rvmc_report.specs.declared.faults.Fault.TheVariants as faults
+use Rattle.rvmc_answers.specs.Below.{Fault}
+use Rattle.rvmc_answers.specs.Below.faults
 use Rattle.rvmc_views.specs.Pieces.{IsMade, LeavesPieces}
 
 -- a fault of the record leaves nothing

@@ -11,8 +11,8 @@ use Rattle.rvmc_page.specs.Texts.{Source}
 use Rattle.rvmc_page.specs.Written.{IsPageWritten, LeavesPage}
 use Rattle.rvmc_page.specs.declared.records.PageFault.{PageFault}
 use Rattle.rvmc_page.specs.declared.records.PageFault.TheVariants as page
-use Rattle.rvmc_picture.specs.Pictures.{view_of}
-use Rattle.rvmc_report.specs.declared.faults.Fault.{Fault}
+use Rattle.rvmc_page.specs.Below.{view_of}
+use Rattle.rvmc_answers.specs.Below.{Fault}
 use Rattle.rvmc_views.specs.Pieces.{IsMade, LeavesPieces}
 use Rattle.rvmc_views.specs.Faults.{IsReadFault, IsStepsFault, IsUnread, fault_of_page}
 use Rattle.rvmc_views.specs.Records.{SaysOfRecord, part_behind, record_part, size_of_all, sources_in}

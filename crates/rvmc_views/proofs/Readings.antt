@@ -8,8 +8,8 @@ use Rattle.rv_image_types.specs.declared.images.ImageParts.{ImageParts}
 use Rattle.rvmc_line.specs.declared.line.RecordCommand.{RecordCommand}
 use Rattle.rvmc_line.specs.declared.line.RecordCommand.TheVariants.{Check, Debug, Draw, List as ListSteps, Page, Report}
 use Rattle.rvmc_line.specs.declared.line.RecordCommand.TheVariants.{Stats, Why}
-use Rattle.rvmc_report.specs.declared.faults.Fault.{Fault}
-use Rattle.rvmc_report.specs.declared.faults.Fault.TheVariants as faults
+use Rattle.rvmc_answers.specs.Below.{Fault}
+use Rattle.rvmc_answers.specs.Below.faults
 use Rattle.rvmc_answers.specs.Ends.{IsFaulty, end_status}
 use Rattle.rvmc_views.specs.Faults.{HasTold, IsReadFault, IsStepsFault, IsUnread}
 use Rattle.rvmc_views.specs.Records.{SaysOfRecord, SaysOfSteps, TellsOfSteps, is_in_pieces, part_behind, record_part}

@@ -9,10 +9,10 @@ use Rattle.rvmc_list.specs.declared.walk.ListFault.{ListFault}
 use Rattle.rvmc_list.specs.declared.walk.ListFault.TheVariants as list
 use Rattle.rvmc_page.specs.declared.records.PageFault.{PageFault}
 use Rattle.rvmc_page.specs.declared.records.PageFault.TheVariants as page
-use Rattle.rvmc_report.specs.declared.faults.DrawRefusal.TheVariants as drawn
-use Rattle.rvmc_report.specs.declared.faults.Fault.{Fault}
-use Rattle.rvmc_report.specs.declared.faults.Fault.TheVariants as faults
-use Rattle.rvmc_report.specs.declared.faults.ListRefusal.TheVariants as refusal
+use Rattle.rvmc_answers.specs.Below.{Fault}
+use Rattle.rvmc_answers.specs.Below.drawn
+use Rattle.rvmc_answers.specs.Below.faults
+use Rattle.rvmc_answers.specs.Below.listed as refusal
 use Rattle.rvmc_views.specs.Records.{RefusesSteps, TellsOfSteps, part_behind, record_part}
 use Rattle.rvmc_answers.specs.declared.answers.End.{End}
 

@@ -5,8 +5,8 @@ use Rattle.std.specs.Io.KnownBytes.{Appends, Keeps}
 use Rattle.rvmc_line.specs.declared.line.RecordCommand.{RecordCommand}
 use Rattle.rvmc_line.specs.declared.line.RecordCommand.TheVariants.{List as ListSteps}
 use Rattle.rvmc_list.specs.declared.folding.Wanted.{Wanted}
-use Rattle.rvmc_report.specs.declared.faults.Fault.{Fault}
-use Rattle.rvmc_report.specs.declared.faults.Fault.TheVariants as faults
+use Rattle.rvmc_answers.specs.Below.{Fault}
+use Rattle.rvmc_answers.specs.Below.faults
 use Rattle.rvmc_views.specs.Records.{SaysOfRecord}
 
 -- the command that lists these steps

@@ -13,7 +13,6 @@ use Rattle.cl_replay.specs.declared.replaying.ReplayFault.TheVariants as replay
 use Rattle.cl_text.specs.Reading.{reading_record}
 use Rattle.rv_image_types.specs.declared.images.ImageParts.{ImageParts}
 use Rattle.rvmc_draw.specs.declared.drawing.Drawing.{Drawing}
-use Rattle.rvmc_answers.specs.Below.{IsTextOfWords}
 use Rattle.rvmc_words.specs.declared.debug.DebugWord.{DebugWord}
 use Rattle.rvmc_line.specs.declared.line.RecordCommand.{RecordCommand}
 use Rattle.rvmc_line.specs.declared.line.RecordCommand.TheVariants.{Check, Debug, Draw, List as ListSteps, Page, Report, Stats, Why}
@@ -25,16 +24,14 @@ use Rattle.rvmc_list.specs.declared.walk.ListFault.TheVariants as list
 use Rattle.rvmc_page.specs.Records.{IsPage, PageFaultHolds}
 use Rattle.rvmc_page.specs.Texts.{Source}
 use Rattle.rvmc_page.specs.declared.records.PageFault.TheVariants as page
-use Rattle.rvmc_picture.specs.Pictures.{DrawFaultHolds, IsDrawing, view_of}
-use Rattle.rvmc_picture.specs.declared.pictures.DrawFault.TheVariants as draw
-use Rattle.rvmc_report.specs.Faults.{fault_of_debug, fault_status}
-use Rattle.rvmc_report.specs.Recorded.{IsReportOf}
-use Rattle.rvmc_report.specs.Verdicts.{verdict_status, verdict_text}
-use Rattle.rvmc_report.specs.declared.faults.DrawRefusal.TheVariants as drawn
-use Rattle.rvmc_report.specs.declared.faults.Fault.{Fault}
-use Rattle.rvmc_report.specs.declared.faults.Fault.TheVariants as faults
-use Rattle.rvmc_report.specs.declared.faults.ListRefusal.TheVariants as refusal
-use Rattle.rvmc_report.specs.declared.faults.PlaceFault.TheVariants as place
+use Rattle.rvmc_page.specs.Below.{DrawFaultHolds, IsDrawing, view_of}
+use Rattle.rvmc_page.specs.Below.draw
+use Rattle.rvmc_answers.specs.Below.{Fault, IsReportOf, IsTextOfWords, fault_of_debug, fault_status, verdict_status}
+use Rattle.rvmc_answers.specs.Below.{verdict_text}
+use Rattle.rvmc_answers.specs.Below.drawn
+use Rattle.rvmc_answers.specs.Below.faults
+use Rattle.rvmc_answers.specs.Below.listed as refusal
+use Rattle.rvmc_answers.specs.Below.place
 use Rattle.rvmc_svg.specs.Safe.{IsAllowed}
 use Rattle.rvmc_svg.specs.Shown.{IsShown}
 use Rattle.rvmc_answers.specs.Ends.{IsFaulty, end_status}

@@ -9,9 +9,9 @@ ghost use Rattle.rvmc_views.specs.Records.{IsChecked};
 use cl_machine::Step;
 use cl_replay::check;
 use rv_image_types::Image;
+use rvmc_answers::faults::Fault;
+use rvmc_answers::verdicts::{verdict_status, verdict_text};
 use rvmc_answers::{Answer, End, Output};
-use rvmc_report::faults::Fault;
-use rvmc_report::verdicts::{verdict_status, verdict_text};
 use std::alloc::Global;
 
 /// `check`: whether the steps of the record are a run of its image, in order.

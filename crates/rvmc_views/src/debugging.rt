@@ -9,8 +9,8 @@ ghost use Rattle.rvmc_views.specs.Records.{IsDebugged, end_after};
 use cl_debug::{DebugFault, Debugger};
 use cl_machine::Step;
 use rv_image_types::Image;
+use rvmc_answers::faults::Fault;
 use rvmc_answers::{Answer, End, Output, tell_all};
-use rvmc_report::faults::Fault;
 use rvmc_words::DebugWords;
 use std::alloc::Global;
 

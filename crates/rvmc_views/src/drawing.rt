@@ -2,7 +2,7 @@
 
 ghost use Rattle.std.specs.Prelude.{◌≡◌, IfErr, IfOk};
 ghost use Rattle.rvmc_line.specs.declared.line.RecordCommand.TheVariants as command;
-ghost use Rattle.rvmc_picture.specs.Pictures.{IsDrawing, view_of};
+ghost use Rattle.rvmc_page.specs.Below.{IsDrawing, view_of};
 ghost use Rattle.rvmc_views.specs.Faults.{IsStepsFault};
 ghost use Rattle.rvmc_answers.specs.Outputs.{output_bytes};
 ghost use Rattle.rvmc_views.specs.Records.{IsPicture};
@@ -10,10 +10,10 @@ ghost use Rattle.rvmc_answers.specs.declared.answers.End.TheVariants.{Status};
 
 use cl_machine::Step;
 use rv_image_types::Image;
+use rvmc_answers::faults::{DrawRefusal, Fault};
 use rvmc_answers::{Answer, End, Output};
 use rvmc_draw::Drawing;
-use rvmc_picture::{DrawFault, drawing};
-use rvmc_report::faults::{DrawRefusal, Fault};
+use rvmc_page::{DrawFault, drawing};
 use rvmc_svg::svg;
 use std::alloc::Global;
 

@@ -10,8 +10,8 @@ ghost use Rattle.rvmc_views.specs.Records.{place_asked};
 
 use cl_machine::Step;
 use rv_image_types::Image;
+use rvmc_answers::faults::Fault;
 use rvmc_answers::{Answer, told_at};
-use rvmc_report::faults::Fault;
 use std::alloc::Global;
 
 /// The place of which `why` tells: so many steps are done, or all.

@@ -14,8 +14,8 @@ use crate::records::read;
 use cl_machine::Step;
 use rv_image_types::Image;
 use rvmc_answers::Answer;
+use rvmc_answers::faults::{Fault, ListRefusal};
 use rvmc_list::{ListFault, Wanted, list, stats};
-use rvmc_report::faults::{Fault, ListRefusal};
 use std::alloc::Global;
 use std::io::Write;
 

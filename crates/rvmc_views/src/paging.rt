@@ -9,9 +9,9 @@ ghost use Rattle.rvmc_views.specs.Faults.{IsReadFault, fault_of_page};
 ghost use Rattle.rvmc_views.specs.Records.{record_part, size_of_all, sources_in};
 
 use crate::records::read;
+use rvmc_answers::faults::{DrawRefusal, Fault};
 use rvmc_line::{SourceSize, SourceSizes};
 use rvmc_page::{PageFault, SourceText, page};
-use rvmc_report::faults::{DrawRefusal, Fault};
 use std::alloc::{AllocError, Global};
 use std::io::Write;
 

@@ -19,8 +19,8 @@ use cl_machine::Step;
 use cl_text::read_record;
 use rv_image_types::Image;
 use rvmc_answers::Answer;
+use rvmc_answers::faults::Fault;
 use rvmc_line::RecordCommand;
-use rvmc_report::faults::Fault;
 use std::alloc::Global;
 
 /// The image and the steps of the record that the bytes spell, or its first fault.

@@ -9,9 +9,9 @@ ghost use Rattle.rvmc_views.specs.Records.{IsReported};
 use cl_machine::Step;
 use cl_replay::ReplayFault;
 use rv_image_types::Image;
+use rvmc_answers::faults::Fault;
+use rvmc_answers::recorded::recorded_report;
 use rvmc_answers::{Answer, End, Output};
-use rvmc_report::faults::Fault;
-use rvmc_report::recorded::recorded_report;
 use std::alloc::Global;
 
 /// `report`: the report of the state to which the steps lead. A wrong step is a fault of the input.

@@ -5,18 +5,14 @@ use Rattle.std.proofs.lemmas.List.{append-nil}
 use Rattle.cl_machine.specs.declared.steps.Step.{Step}
 use Rattle.cl_text.specs.Reading.{reading_record}
 use Rattle.rv_image_types.specs.declared.images.ImageParts.{ImageParts}
-use Rattle.rvmc_gdb.specs.Answers.{most}
-use Rattle.rvmc_gdb.specs.Laws.{HeardLaw}
-use Rattle.rvmc_gdb.specs.Serving.{Serving}
-use Rattle.rvmc_gdb.specs.Talks.{Connection, Converses, Hears, Serves, Talk, connected, talk_begun}
 use Rattle.rvmc_protocol.specs.Packets.Frames.{Holds, message_of, nothing, packet, packet_of}
 use Rattle.rvmc_protocol.specs.Packets.Texts.{payload_in}
 use Rattle.rvmc_protocol.specs.declared.packets.reader.Message.{Message}
 use Rattle.rvmc_protocol.specs.declared.packets.reader.Message.TheVariants.{Packet}
 use Rattle.rvmc_protocol.specs.Requests.{lone_question, lone_word, plain_in, request_in}
 use Rattle.rvmc_protocol.specs.declared.requests.Request.TheVariants.{Detach}
-use Rattle.rvmc_serve.specs.Laws.{AnswersLaw}
-use Rattle.rvmc_serve.specs.Sessions.{IsSession}
+use Rattle.rvmc_tool.specs.Below.{AnswersLaw, Connection, Converses, HeardLaw, Hears, IsSession, Serves, Serving, Talk}
+use Rattle.rvmc_tool.specs.Below.{connected, most, talk_begun}
 
 -- what the client sends, `$D#44`, holds this message
 is_message : message_of (68 ∷ []) 52 52 ≡ Packet (68 ∷ [])

@@ -18,6 +18,7 @@ use rvmc_report::faults::Fault;
 use rvmc_tool::answers::{answer_to, answer_with_threads};
 use rvmc_words::Numbers;
 use std::alloc::{AllocError, Global};
+use std::io::sink;
 use std::sync::Wait;
 use std::thread::Threads;
 
@@ -27,7 +28,7 @@ pub fn nothing_is_read(alloc: Global, line: &CommandLine, bytes: &[u8]) -> Resul
     requires whole { is_written_as_made line.now ≡ false }
     ensures { result ≢ Err faults.Read }
 {
-    answer_to(alloc, line, bytes)
+    answer_to(alloc, line, bytes, &mut sink())
 }
 
 /// Nor of a write.
@@ -36,7 +37,7 @@ pub fn nothing_is_written(alloc: Global, line: &CommandLine, bytes: &[u8]) -> Re
     requires whole { is_written_as_made line.now ≡ false }
     ensures { result ≢ Err faults.Write }
 {
-    answer_to(alloc, line, bytes)
+    answer_to(alloc, line, bytes, &mut sink())
 }
 
 /// A run on one thread is refused none.
@@ -57,7 +58,7 @@ pub fn one_wants_no_thread(
             written: Written::Report,
         },
     };
-    answer_to(alloc, &line, bytes)
+    answer_to(alloc, &line, bytes, &mut sink())
 }
 
 /// A listing isn't told of as threads that left what doesn't fit, on whatever thread it is made.
@@ -72,7 +73,7 @@ pub fn dis_has_no_threads<R: Threads + Wait + Sync>(
         source: false,
         command: ImageCommand::Dis,
     };
-    answer_with_threads(rt, alloc, &line, bytes)
+    answer_with_threads(rt, alloc, &line, bytes, &mut sink())
 }
 
 /// An image isn't taken for a source: no bytes are no fault of a source.
@@ -93,7 +94,7 @@ pub fn images_are_no_sources(
             written: Written::Report,
         },
     };
-    answer_to(alloc, &line, &[])
+    answer_to(alloc, &line, &[], &mut sink())
 }
 
 /// Nor is a record: no bytes are one that is too short, and never a good one.
@@ -102,14 +103,24 @@ pub fn nothing_is_no_record(alloc: Global) -> Result<Answer, Fault>
     ensures status { IfOk result (λ answer. end_status answer.end ≡ 1) }
     ensures short { IfErr result (λ fault. (fault ≡ faults.Memory) ⊎ (fault ≡ faults.Record (Short 0))) }
 {
-    answer_to(alloc, &CommandLine::OfRecord(RecordCommand::Check), &[])
+    answer_to(
+        alloc,
+        &CommandLine::OfRecord(RecordCommand::Check),
+        &[],
+        &mut sink(),
+    )
 }
 
 /// A check wants no plans: none are told of.
 pub fn check_has_no_plans(alloc: Global, bytes: &[u8]) -> Result<Answer, Fault>
     ensures { result ≢ Err faults.Plans }
 {
-    answer_to(alloc, &CommandLine::OfRecord(RecordCommand::Check), bytes)
+    answer_to(
+        alloc,
+        &CommandLine::OfRecord(RecordCommand::Check),
+        bytes,
+        &mut sink(),
+    )
 }
 
 /// Nor does `why`: bytes that are no record have no place.
@@ -122,6 +133,7 @@ pub fn nothing_has_no_place(alloc: Global, at: Option<u64>) -> Result<Answer, Fa
         alloc,
         &CommandLine::OfRecord(RecordCommand::Why { at, frames: false }),
         &[],
+        &mut sink(),
     )
 }
 
@@ -133,6 +145,7 @@ pub fn each_place_ends_with_0(alloc: Global, at: Option<u64>, bytes: &[u8]) -> R
         alloc,
         &CommandLine::OfRecord(RecordCommand::Why { at, frames: false }),
         bytes,
+        &mut sink(),
     )
 }
 

@@ -4,15 +4,11 @@ ghost use Rattle.std.specs.Prelude.{◌≡◌, ◌++◌, ◌∷◌, IfOk, List, 
 ghost use Rattle.cl_machine.specs.declared.steps.Step.{Step};
 ghost use Rattle.cl_text.specs.Reading.{reading_record};
 ghost use Rattle.rv_image_types.specs.declared.images.ImageParts.{ImageParts};
-ghost use Rattle.rvmc_gdb.specs.Serving.{Serving};
-ghost use Rattle.rvmc_gdb.specs.Talks.{connected};
-ghost use Rattle.rvmc_gdb.specs.declared.server.Flow.TheVariants as flows;
+ghost use Rattle.rvmc_tool.specs.Below.{Serving, connected};
+ghost use Rattle.rvmc_tool.specs.Below.flows;
 ghost use Rattle.rvmc_protocol.specs.Packets.Frames.{packet_of};
 
-use rvmc_gdb::laws::heard_law;
-use rvmc_gdb::{Flow, Server};
-use rvmc_serve::laws::answers_law;
-use rvmc_serve::{Refused, serve};
+use rvmc_tool::{Flow, Refused, Server, answers_law, heard_law, serve};
 use std::alloc::{AllocError, Global};
 
 /// A client that has left by `D` is heard no more.

@@ -1,7 +1,9 @@
 //! The program on slices and vectors.
 
-ghost use Rattle.std.specs.Prelude.{◌≡◌, ◌≢◌, ◌++◌, ℕ, List, codes, take, true};
+ghost use Rattle.std.specs.Prelude.{◌≡◌, ◌≢◌, ◌++◌, ℕ, List, codes, false, map, take, true};
 ghost use Rattle.std.specs.Io.{StartsWith};
+ghost use Rattle.rvmc_tool.specs.Plain.{plain_meaning_of};
+ghost use Rattle.rvmc_tool.specs.Progress.{want_progress};
 ghost use Rattle.rvmc_tool.specs.Tool.{is_quiet};
 
 use rvmc_hints::laws::hint_law;
@@ -52,7 +54,8 @@ pub fn threads_read_nothing_of_refused_words<R: Threads + Wait + Sync>(
     tool(rt, alloc, &["fly"], input, out, err)
 }
 
-/// With the statuses 0, 3 and 4 no fault's line stands on standard error: what comes there begins as a hint does.
+/// With the statuses 0, 3, 4 and 7 no fault's line stands on standard error: what comes there begins as a hint does, unless
+/// the words ask for lines that say how far a search came.
 pub fn quiet_statuses_tell_hints_alone<'a>(
     alloc: Global,
     words: &'a [&'a str],
@@ -60,8 +63,8 @@ pub fn quiet_statuses_tell_hints_alone<'a>(
     out: &mut Vec<u8>,
     err: &mut Vec<u8>,
 ) -> u8
-    ensures { is_quiet result ≡ true → (said : List ℕ) × (err.new.items ≡ err.old.items ++ said)
-        × StartsWith (codes "hint: ") (take 6 said) }
+    ensures { want_progress (plain_meaning_of (map (λ w. w.now) words.entry.now)) ≡ false → is_quiet result ≡ true
+        → (said : List ℕ) × (err.new.items ≡ err.old.items ++ said) × StartsWith (codes "hint: ") (take 6 said) }
 {
     let status = tool_plain(alloc, words, input, out, err);
     hint_law();

@@ -1,6 +1,6 @@
 use Rattle.std.proofs.Common.{rules, ◌≡◌}
 use Rattle.rv_hart.specs.State.{read}
-use Rattle.rvmc_inspect.proofs.Lines.{line_more}
+use Rattle.rvmc_picture.proofs.Below.{line_more}
 use Rattle.rvmc_protocol.specs.Replies.Digits.{register_text}
 use Rattle.rvmc_gdb.proofs.shown.put_registers.Goals as goal
 

@@ -1,5 +1,5 @@
 use Rattle.std.proofs.Common.{List, rules, subst}
-use Rattle.rvmc_inspect.specs.Words.{StopsAt}
+use Rattle.rvmc_gdb.specs.Below.{StopsAt}
 use Rattle.rvmc_serve.proofs.typing.debugged.Goals as goal
 use Rattle.rvmc_words.specs.declared.debug.DebugWord.{DebugWord}
 

@@ -1,7 +1,6 @@
 use Rattle.std.specs.Prelude.{◌≡◌, ◌++◌, ℕ, List, codes}
 use Rattle.std.proofs.Common.{◌∙◌, ap, subst}
-use Rattle.rvmc_gdb.specs.Talks.{Connection, Serves, flow_of}
-use Rattle.rvmc_gdb.specs.declared.server.Flow.TheVariants.{Ended}
+use Rattle.rvmc_tool.specs.Below.{Connection, Ended, Serves, flow_of}
 use Rattle.test_program.proofs.Leaving.{ends}
 use Rattle.test_program.proofs.Results.{ok_with}
 use Rattle.test_program.proofs.gdb.who_has_left_is_heard_no_more.Goals as goal

@@ -1,5 +1,5 @@
 use Rattle.std.proofs.Common.{refl}
-use Rattle.rvmc_inspect.proofs.Lines.{line_more}
+use Rattle.rvmc_picture.proofs.Below.{line_more}
 use Rattle.rvmc_gdb.specs.Shown.{named_thread}
 use Rattle.rvmc_gdb.proofs.session.Session.put_threads.Goals as goal
 
