@@ -3,12 +3,14 @@
 use cl_contests::Patterns;
 use std::alloc::Global;
 
-/// The order of the harts of each rank, and how many turns a rank takes by itself at once.
+/// The order of the harts of each rank, how many turns a rank takes by itself at once, and whether lines are wanted that say
+/// how far the search came.
 #[derive(Clone, Copy, Drop)]
 pub struct Course<'a> {
     pub alloc: Global,
     pub order: &'a [u8],
     pub most: u64,
+    pub progress: bool,
 }
 
 /// Which turns are taken at once, beside those that need only their rank.
@@ -28,6 +30,7 @@ pub(crate) struct Manner<'a> {
     pub alloc: Global,
     pub order: &'a [u8],
     pub most: u64,
+    pub progress: bool,
     pub way: Way,
     pub patterns: &'a Patterns,
 }

@@ -13,6 +13,7 @@ ghost use Rattle.cl_explore.specs.declared.course.Way.TheVariants as ways;
 ghost use Rattle.cl_explore.specs.Ends.{AreEnough, AreTurnsTo, BeginsAt, Explored, ExploredBehind, ExploredPlainly, ExploresFrom, HasLonger, IsBounded, IsLonger, Notes, StillExplores, findings};
 ghost use Rattle.cl_explore.specs.Visiting.{NotesVisit, findings_of};
 ghost use Rattle.cl_explore.specs.Orders.{OrderFaultHolds};
+ghost use Rattle.cl_lines.specs.Telling.{TellsProgress};
 
 use crate::companies::{Company, note_stuck};
 use crate::course::{Course, Manner, Way};
@@ -23,12 +24,14 @@ use crate::moving::{Visit, settle};
 use crate::orders::{OrderFault, follow, turns_in};
 use crate::search::Search;
 use cl_contests::{Patterns, is_first_hart};
+use cl_lines::{Progress, put_progress};
 use cl_machine::Step;
 use cl_moves::{MoveFault, Standing};
 use cl_turns::Turn;
 use mp_alike::WholeHub;
 use rv_image_types::Image;
 use std::alloc::{AllocError, Global};
+use std::io::Write;
 
 /// How many posts are too many beside calls that are made at once: a hub holds one message more.
 const MOST_POSTS: u64 = 65535;
@@ -57,11 +60,27 @@ pub struct Exploration {
     pub leads: Vec<Lead>,
 }
 
-/// Where a search comes to an end: once it has made the moves of so many nodes, or, where `enough` says so, so many are left.
+/// Where a search comes to an end: once it has made the moves of so many nodes, or, where `enough` says so, so many are left;
+/// and which pass this is, from 1, since a search may begin again in another way.
 #[derive(Clone, Copy, Drop)]
 struct Bounds {
     states: usize,
     enough: Option<usize>,
+    pass: u64,
+}
+
+impl Bounds {
+    /// The same in the next pass.
+    fn next(self) -> Bounds
+        ensures states { result.states ≡ self.states }
+        ensures enough { result.enough ≡ self.enough }
+    {
+        Bounds {
+            states: self.states,
+            enough: self.enough,
+            pass: self.pass.saturating_add(1),
+        }
+    }
 }
 
 /// Whether a search goes on that made the moves of so many of these nodes.
@@ -114,11 +133,13 @@ fn begin(
 }
 
 /// The moves of all nodes from a standing on, within bounds.
-fn search_nodes(
+#[tactic(auto, using(cl_lines::proofs::Behind::nothing_told))]
+fn search_nodes<E: Write>(
     course: &Manner<'_>,
     search: &mut Search,
     standing: &mut Standing,
     bounds: Bounds,
+    err: &mut E,
 ) -> Result<Option<Told>, Halt>
     requires order { 0 < length course.now.order.now }
     requires none { search.old.nodes.items ≡ [] }
@@ -130,9 +151,10 @@ fn search_nodes(
         IsBounded bounds.states bounds.enough course.now.most search.new.nodes.items told.left)) }
     ensures plain { course.now.way ≡ ways.Plainly → IfOk result (λ o. is_some o ≡ true) }
     ensures halt { IfErr result (IsHaltOf course.now.way) }
+    ensures progress { TellsProgress course.now.progress (E.contents err.old) (E.contents err.new) }
 {
     let long = begin(course, search, standing)?;
-    match visit_each(course, search, long, bounds)? {
+    match visit_each(course, search, long, bounds, err)? {
         None => Ok(None),
         Some(told) => Ok(Some(follow_if_cut(course, search, told, bounds)?)),
     }
@@ -238,13 +260,38 @@ fn note_visit(noted: &mut Noted, visit: Visit, node: usize) -> Result<(), AllocE
     note_stuck(&mut noted.companies, visit.stuck, node)
 }
 
+/// Writes how far a search came that made the moves of so many nodes, where that is wanted.
+#[tactic(auto, using(cl_lines::proofs::Behind::nothing_told))]
+fn tell_progress<E: Write>(
+    course: &Manner<'_>,
+    search: &Search,
+    noted: &Noted,
+    pass: u64,
+    done: usize,
+    err: &mut E,
+)
+    ensures { TellsProgress course.now.progress (E.contents err.old) (E.contents err.new) }
+{
+    if course.progress {
+        let progress = Progress {
+            pass,
+            states: done,
+            ends: noted.ends.len(),
+            left: search.nodes.len().saturating_sub(done),
+        };
+        put_progress(course.alloc, err, &progress);
+    }
+}
+
 /// The moves of one node after another are made, within bounds. None where calls for what is there are made at once, and a
 /// hub came to have too many posts for that.
-fn visit_each(
+#[tactic(auto, using(cl_lines::proofs::Behind::nothing_told))]
+fn visit_each<E: Write>(
     course: &Manner<'_>,
     search: &mut Search,
     long: Option<u8>,
     bounds: Bounds,
+    err: &mut E,
 ) -> Result<Option<Told>, Halt>
     requires { 0 < length course.now.order.now }
     ensures ends { IfOk result (λ o. IfSome o (λ told. (standing : StandingView) → HasRoom (how_in course.now) standing.whole
@@ -254,6 +301,7 @@ fn visit_each(
         IsBounded bounds.states bounds.enough course.now.most search.new.nodes.items told.left)) }
     ensures plain { course.now.way ≡ ways.Plainly → IfOk result (λ o. is_some o ≡ true) }
     ensures halt { IfErr result (IsHaltOf course.now.way) }
+    ensures progress { TellsProgress course.now.progress (E.contents err.old) (E.contents err.new) }
 {
     let mut noted = Noted {
         ends: Vec::new(course.alloc),
@@ -272,6 +320,7 @@ fn visit_each(
         let visit = search.visit(course, done)?;
         note_visit(&mut noted, visit, done)?;
         done += 1;
+        tell_progress(course, search, &noted, bounds.pass, done, err);
     }
     let left = search.nodes.len().saturating_sub(done);
     Ok(Some(Told { noted, left }))
@@ -281,11 +330,13 @@ fn visit_each(
 /// them are ends: breadth first, ranks in order. None where calls for what is there are made at once, and a hub came to
 /// have too many posts for that. The standing may be anything then. What ranks asked beside the patterns is left in
 /// `missing` where the search was halted for that.
-fn search_on(
+#[tactic(auto, using(cl_lines::proofs::Behind::nothing_told))]
+fn search_on<E: Write>(
     course: &Manner<'_>,
     standing: &mut Standing,
     bounds: Bounds,
     missing: &mut Patterns,
+    err: &mut E,
 ) -> Result<Option<Exploration>, Halt>
     requires { 0 < length course.now.order.now }
     ensures ends { IfOk result (λ o. IfSome o (λ found.
@@ -294,12 +345,13 @@ fn search_on(
         IsBounded bounds.states bounds.enough course.now.most found.nodes.items found.left)) }
     ensures plain { course.now.way ≡ ways.Plainly → IfOk result (λ o. is_some o ≡ true) }
     ensures halt { IfErr result (IsHaltOf course.now.way) }
+    ensures progress { TellsProgress course.now.progress (E.contents err.old) (E.contents err.new) }
 {
     if !has_room(course.way, &standing.whole) {
         return Ok(None);
     }
     let mut search = Search::new(course.alloc)?;
-    let told = search_nodes(course, &mut search, standing, bounds);
+    let told = search_nodes(course, &mut search, standing, bounds, err);
     let told = match told {
         Ok(Some(told)) => told,
         Ok(None) => return Ok(None),
@@ -319,13 +371,14 @@ fn search_on(
 }
 
 /// The same in this way, by these patterns of all ranks.
-fn search(
+fn search<E: Write>(
     course: &Course<'_>,
     mut standing: Standing,
     bounds: Bounds,
     way: Way,
     patterns: &Patterns,
     missing: &mut Patterns,
+    err: &mut E,
 ) -> Result<Option<Exploration>, Halt>
     requires { 0 < length course.now.order.now }
     ensures ends { IfOk result (λ o. IfSome o (λ found.
@@ -334,31 +387,43 @@ fn search(
         IsBounded bounds.states bounds.enough course.now.most found.nodes.items found.left)) }
     ensures plain { way ≡ ways.Plainly → IfOk result (λ o. is_some o ≡ true) }
     ensures halt { IfErr result (IsHaltOf way) }
+    ensures progress { TellsProgress course.now.progress (E.contents err.old) (E.contents err.new) }
 {
     let manner = Manner {
         alloc: course.alloc,
         order: course.order,
         most: course.most,
+        progress: course.progress,
         way,
         patterns,
     };
-    search_on(&manner, &mut standing, bounds, missing)
+    search_on(&manner, &mut standing, bounds, missing, err)
 }
 
 /// The same with calls for what is there made at once.
-fn search_at_once(
+fn search_at_once<E: Write>(
     course: &Course<'_>,
     standing: Standing,
     bounds: Bounds,
+    err: &mut E,
 ) -> Result<Option<Exploration>, MoveFault>
     requires { 0 < length course.now.order.now }
     ensures ends { IfOk result (λ o. IfSome o (λ found. ExploresFrom at_once course.now.order.now standing (findings found))) }
     ensures most { IfOk result (λ o. IfSome o (λ found.
         IsBounded bounds.states bounds.enough course.now.most found.nodes.items found.left)) }
+    ensures progress { TellsProgress course.now.progress (E.contents err.old) (E.contents err.new) }
 {
     let none = Patterns::new(course.alloc);
     let mut missing = Patterns::new(course.alloc);
-    match search(course, standing, bounds, Way::AtOnce, &none, &mut missing) {
+    match search(
+        course,
+        standing,
+        bounds,
+        Way::AtOnce,
+        &none,
+        &mut missing,
+        err,
+    ) {
         Ok(found) => Ok(found),
         Err(Halt::Fault(fault)) => Err(fault),
         Err(Halt::Outside) => unreachable!(),
@@ -366,19 +431,29 @@ fn search_at_once(
 }
 
 /// The same without them.
-fn search_plainly(
+fn search_plainly<E: Write>(
     course: &Course<'_>,
     standing: Standing,
     bounds: Bounds,
+    err: &mut E,
 ) -> Result<Exploration, MoveFault>
     requires { 0 < length course.now.order.now }
     ensures ends { IfOk result (λ found. ExploresFrom plainly course.now.order.now standing (findings found)) }
     ensures most { IfOk result (λ found.
         IsBounded bounds.states bounds.enough course.now.most found.nodes.items found.left) }
+    ensures progress { TellsProgress course.now.progress (E.contents err.old) (E.contents err.new) }
 {
     let none = Patterns::new(course.alloc);
     let mut missing = Patterns::new(course.alloc);
-    match search(course, standing, bounds, Way::Plainly, &none, &mut missing) {
+    match search(
+        course,
+        standing,
+        bounds,
+        Way::Plainly,
+        &none,
+        &mut missing,
+        err,
+    ) {
         Ok(Some(found)) => Ok(found),
         Ok(None) => unreachable!(),
         Err(Halt::Fault(fault)) => Err(fault),
@@ -388,12 +463,14 @@ fn search_plainly(
 
 /// The same from the loaded cluster, with turns that nobody contests taken first. None where a rank asked beside the
 /// patterns, which is left in `missing`, or where not all ranks may be let go at a cluster in which nobody goes first.
-fn search_first(
+#[tactic(auto, using(cl_lines::proofs::Behind::nothing_told))]
+fn search_first<E: Write>(
     course: &Course<'_>,
     image: &Image,
     bounds: Bounds,
     patterns: &Patterns,
     missing: &mut Patterns,
+    err: &mut E,
 ) -> Result<Option<Exploration>, MoveFault>
     requires order { 0 < length course.now.order.now }
     requires first { IsFirstHart course.now.order.now }
@@ -401,9 +478,10 @@ fn search_first(
     ensures ends { IfOk result (λ o. IfSome o (λ found. Explored image.now course.now.order.now (findings found))) }
     ensures most { IfOk result (λ o. IfSome o (λ found.
         IsBounded bounds.states bounds.enough course.now.most found.nodes.items found.left)) }
+    ensures progress { TellsProgress course.now.progress (E.contents err.old) (E.contents err.new) }
 {
     let standing = Standing::load(course.alloc, image)?;
-    match search(course, standing, bounds, Way::First, patterns, missing) {
+    match search(course, standing, bounds, Way::First, patterns, missing, err) {
         Ok(found) => Ok(found),
         Err(Halt::Fault(fault)) => Err(fault),
         Err(Halt::Outside) => Ok(None),
@@ -412,27 +490,37 @@ fn search_first(
 
 /// The same by the patterns that all ranks turn out to have: while one asks beside those that are known, the search begins
 /// again with these. None where ranks have several harts, where some ask what has no pattern, or where not all may be let go
-/// though nobody goes first.
-fn search_by_patterns(
+/// though nobody goes first. `pass` is the next pass of the search.
+#[tactic(auto, using(cl_lines::proofs::Behind::nothing_told))]
+fn search_by_patterns<E: Write>(
     course: &Course<'_>,
     image: &Image,
-    bounds: Bounds,
+    states: usize,
+    pass: &mut u64,
+    err: &mut E,
 ) -> Result<Option<Exploration>, MoveFault>
     requires { 0 < length course.now.order.now }
     ensures ends { IfOk result (λ o. IfSome o (λ found. Explored image.now course.now.order.now (findings found))) }
     ensures most { IfOk result (λ o. IfSome o (λ found.
-        IsBounded bounds.states bounds.enough course.now.most found.nodes.items found.left)) }
+        IsBounded states None course.now.most found.nodes.items found.left)) }
+    ensures progress { TellsProgress course.now.progress (E.contents err.old) (E.contents err.new) }
 {
     if image.parts().harts != 1 || !is_first_hart(course.order) {
         return Ok(None);
     }
     let mut patterns = Patterns::new(course.alloc);
-    for _pass in 0..MOST_PASSES {
+    for _try in 0..MOST_PASSES {
         let mut missing = Patterns::new(course.alloc);
-        let found = search_first(course, image, bounds, &patterns, &mut missing)?;
+        let bounds = Bounds {
+            states,
+            enough: None,
+            pass: *pass,
+        };
+        let found = search_first(course, image, bounds, &patterns, &mut missing, err)?;
         if found.is_some() {
             return Ok(found);
         }
+        *pass = pass.saturating_add(1);
         if missing.is_empty() {
             return Ok(None);
         }
@@ -445,27 +533,36 @@ fn search_by_patterns(
 /// breadth first, ranks in order. Where none is left, each run that follows the order of harts and ends where nobody goes
 /// on ends in a cluster that is alike an end that is told, and no run by that order comes to a cluster in which other ranks are
 /// stuck than in one of the nodes. Some are left only where the moves of as many as were allowed have been made, or where a
-/// rank took more turns by itself than it was let at once.
+/// rank took more turns by itself than it was let at once. Where that is wanted, lines on `err` say how far it came.
 ///
 /// Refusals: Clock, Memory.
-pub fn explore(course: &Course<'_>, image: &Image, states: usize) -> Result<Exploration, MoveFault>
+#[tactic(auto, using(cl_lines::proofs::Behind::nothing_told))]
+pub fn explore<E: Write>(
+    course: &Course<'_>,
+    image: &Image,
+    states: usize,
+    err: &mut E,
+) -> Result<Exploration, MoveFault>
     requires { 0 < length course.now.order.now }
     ensures ends { IfOk result (λ found. Explored image.now course.now.order.now (findings found)) }
     ensures most { IfOk result (λ found. IsBounded states None course.now.most found.nodes.items found.left) }
+    ensures progress { TellsProgress course.now.progress (E.contents err.old) (E.contents err.new) }
 {
+    let mut pass = 1;
+    if let Some(found) = search_by_patterns(course, image, states, &mut pass, err)? {
+        return Ok(found);
+    }
     let bounds = Bounds {
         states,
         enough: None,
+        pass,
     };
-    if let Some(found) = search_by_patterns(course, image, bounds)? {
-        return Ok(found);
-    }
     let standing = Standing::load(course.alloc, image)?;
-    if let Some(found) = search_at_once(course, standing, bounds)? {
+    if let Some(found) = search_at_once(course, standing, bounds, err)? {
         return Ok(found);
     }
     let again = Standing::load(course.alloc, image)?;
-    search_plainly(course, again, bounds)
+    search_plainly(course, again, bounds.next(), err)
 }
 
 /// The same until so many nodes are left or more, from each of which one may go on by itself, and without calls that are
@@ -473,49 +570,57 @@ pub fn explore(course: &Course<'_>, image: &Image, states: usize) -> Result<Expl
 /// more turns by itself than it was let at once.
 ///
 /// Refusals: Clock, Memory.
-pub fn split(
+#[tactic(auto, using(cl_lines::proofs::Behind::nothing_told))]
+pub fn split<E: Write>(
     course: &Course<'_>,
     image: &Image,
     states: usize,
     least: usize,
+    err: &mut E,
 ) -> Result<Exploration, MoveFault>
     requires { 0 < length course.now.order.now }
     ensures ends { IfOk result (λ found. ExploredPlainly image.now course.now.order.now (findings found)) }
     ensures most { IfOk result (λ found.
         IsBounded states (Some least) course.now.most found.nodes.items found.left) }
+    ensures progress { TellsProgress course.now.progress (E.contents err.old) (E.contents err.new) }
 {
     let standing = Standing::load(course.alloc, image)?;
     let bounds = Bounds {
         states,
         enough: Some(least),
+        pass: 1,
     };
-    search_plainly(course, standing, bounds)
+    search_plainly(course, standing, bounds, err)
 }
 
 /// The same as `explore`, from where the turns of an order lead: of the runs that begin with those turns.
 ///
 /// Refusals: NoTurn where the machine has no such turn there, Clock, Memory.
-pub fn explore_from(
+#[tactic(auto, using(cl_lines::proofs::Behind::nothing_told))]
+pub fn explore_from<E: Write>(
     course: &Course<'_>,
     image: &Image,
     turns: &[Turn],
     states: usize,
+    err: &mut E,
 ) -> Result<Exploration, OrderFault>
     requires { 0 < length course.now.order.now }
     ensures ends { IfOk result (λ found. ExploredBehind image.now course.now.order.now turns.now (findings found)) }
     ensures most { IfOk result (λ found. IsBounded states None course.now.most found.nodes.items found.left) }
     ensures fault { IfErr result (OrderFaultHolds image.now course.now.order.now turns.now) }
+    ensures progress { TellsProgress course.now.progress (E.contents err.old) (E.contents err.new) }
 {
     let bounds = Bounds {
         states,
         enough: None,
+        pass: 1,
     };
     let standing = follow(course, image, turns)?;
-    if let Some(found) = search_at_once(course, standing, bounds)? {
+    if let Some(found) = search_at_once(course, standing, bounds, err)? {
         return Ok(found);
     }
     let again = follow(course, image, turns)?;
-    let found = search_plainly(course, again, bounds)?;
+    let found = search_plainly(course, again, bounds.next(), err)?;
     Ok(found)
 }
 

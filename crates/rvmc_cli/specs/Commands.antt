@@ -146,12 +146,13 @@ explore_fits rows =
     option_and_then (λ _. option_and_then (λ _. apart (codes "from") (codes "plan" ∷ []) rows)
     (apart (codes "split") (codes "from" ∷ codes "states" ∷ codes "record" ∷ []) rows))
     (apart (codes "join") (codes "source" ∷ codes "plan" ∷ codes "states" ∷ codes "turns" ∷ codes "record" ∷ codes "split"
-    ∷ codes "from" ∷ []) rows)
+    ∷ codes "from" ∷ codes "progress" ∷ []) rows)
 
 -- all ends behind a start, or else from the image on
 abbrev pub ends_by : ℕ → ℕ → Option ℕ → Option Start → List Row → Option ImageCommand
-ends_by states turns end (Some start) rows = Some (ExploreFrom start states turns end)
-ends_by states turns end None rows = option_map (λ plan. Explore plan states turns end) (list_option (codes "plan") rows)
+ends_by states turns end (Some start) rows = Some (ExploreFrom start states turns end (flag_in (codes "progress") rows))
+ends_by states turns end None rows =
+    option_map (λ plan. Explore plan states turns end (flag_in (codes "progress") rows)) (list_option (codes "plan") rows)
 
 abbrev pub ends_in : ℕ → List Row → Option ImageCommand
 ends_in turns rows =
@@ -160,7 +161,8 @@ ends_in turns rows =
 
 -- so many starts, or else all ends
 abbrev pub search_by : ℕ → Option ℕ → List Row → Option ImageCommand
-search_by turns (Some count) rows = option_map (λ plan. Split plan count turns) (list_option (codes "plan") rows)
+search_by turns (Some count) rows =
+    option_map (λ plan. Split plan count turns (flag_in (codes "progress") rows)) (list_option (codes "plan") rows)
 search_by turns None rows = ends_in turns rows
 
 abbrev pub search_in : List Row → Option ImageCommand
@@ -173,13 +175,15 @@ explored_in rows =
     if flag_in (codes "join") rows then Some Join
     else option_map (λ search. OfImage (flag_in (codes "source") rows) search) (search_in rows)
 
--- `explore [--source] [--plan HARTS] [--states N] [--turns N] [--record K] [--split N] [--from START] [--join]`
+-- `explore [--source] [--plan HARTS] [--states N] [--turns N] [--record K] [--split N] [--from START] [--join]
+-- [--progress]`
 abbrev pub explore_row : CommandRow
 explore_row =
     record {
       name = codes "explore";
       rules = flag (codes "source") ∷ option (codes "plan") ∷ option (codes "states") ∷ option (codes "turns")
-          ∷ option (codes "record") ∷ option (codes "split") ∷ option (codes "from") ∷ flag (codes "join") ∷ [];
+          ∷ option (codes "record") ∷ option (codes "split") ∷ option (codes "from") ∷ flag (codes "join")
+          ∷ flag (codes "progress") ∷ [];
       meaning = λ rows. option_and_then (λ _. explored_in rows) (explore_fits rows);
     }
 

@@ -52,20 +52,20 @@ why_a_wrong_word = refl
 -- ---- all orders
 
 -- without options an image is searched, by the plan of all harts in order, as far as 1,000,000 states
-pub all_ends : meaning_of (codes "explore" ∷ []) ≡ Some (OfImage false (Explore None 1000000 1000000 None))
+pub all_ends : meaning_of (codes "explore" ∷ []) ≡ Some (OfImage false (Explore None 1000000 1000000 None false))
 unfolding faults_in command_in line_in clap_on_literals
 all_ends = refl
 
 -- `--record` takes the number of an end, where `one` has a flag of this name
 pub second_end : meaning_of (codes "explore" ∷ codes "--source" ∷ codes "--record=2" ∷ [])
-    ≡ Some (OfImage true (Explore None 1000000 1000000 (Some 2)))
+    ≡ Some (OfImage true (Explore None 1000000 1000000 (Some 2) false))
 unfolding faults_in command_in line_in clap_on_literals number_in
 second_end = refl
 
 -- each bound has its own option
 pub bounds_and_plan : meaning_of
     (codes "explore" ∷ codes "--turns" ∷ codes "16777216" ∷ codes "--states=5" ∷ codes "--plan=0,1" ∷ [])
-    ≡ Some (OfImage false (Explore (Some (0 ∷ 1 ∷ [])) 5 16777216 None))
+    ≡ Some (OfImage false (Explore (Some (0 ∷ 1 ∷ [])) 5 16777216 None false))
 unfolding faults_in command_in line_in clap_on_literals number_in numbers_in
 bounds_and_plan = refl
 
@@ -78,6 +78,12 @@ pub why_no_end_0 : refusals_of (codes "explore" ∷ codes "--record" ∷ codes "
 unfolding faults_in clap_on_literals
 why_no_end_0 = refl
 
+-- lines that say how far it came come if they are asked for
+pub told_on_the_way : meaning_of (codes "explore" ∷ codes "--progress" ∷ [])
+    ≡ Some (OfImage false (Explore None 1000000 1000000 None true))
+unfolding faults_in command_in line_in clap_on_literals
+told_on_the_way = refl
+
 -- and a search has no budget
 pub why_no_budget : refusals_of (codes "explore" ∷ codes "--budget" ∷ codes "5" ∷ []) ≡ kind.UnknownArgument ∷ []
 unfolding faults_in clap_on_literals
@@ -87,7 +93,7 @@ why_no_budget = refl
 
 -- 64 starts or more, which have the plan in them
 pub starts : meaning_of (codes "explore" ∷ codes "--split" ∷ codes "64" ∷ codes "--source" ∷ codes "--plan=0,1" ∷ [])
-    ≡ Some (OfImage true (Split (Some (0 ∷ 1 ∷ [])) 64 1000000))
+    ≡ Some (OfImage true (Split (Some (0 ∷ 1 ∷ [])) 64 1000000 false))
 unfolding faults_in command_in line_in clap_on_literals number_in numbers_in
 starts = refl
 
@@ -118,7 +124,7 @@ the_start =
 
 -- the record of an end behind it
 pub behind_a_start : meaning_of (codes "explore" ∷ codes "--from" ∷ a_start ∷ codes "--record=1" ∷ [])
-    ≡ Some (OfImage false (ExploreFrom the_start 1000000 1000000 (Some 1)))
+    ≡ Some (OfImage false (ExploreFrom the_start 1000000 1000000 (Some 1) false))
 unfolding faults_in command_in line_in clap_on_literals number_in numbers_in start_in place_in sum_in hex_in turns_in item_in
 behind_a_start = refl
 
@@ -146,6 +152,11 @@ no_joined_source = refl
 pub why_no_joined_source : refusals_of (codes "explore" ∷ codes "--source" ∷ codes "--join" ∷ []) ≡ kind.ValueValidation ∷ []
 unfolding faults_in clap_on_literals
 why_no_joined_source = refl
+
+-- and nothing is searched then
+pub no_joined_progress : meaning_of (codes "explore" ∷ codes "--join" ∷ codes "--progress" ∷ []) ≡ None
+unfolding faults_in command_in line_in clap_on_literals
+no_joined_progress = refl
 
 -- what doesn't stand together is refused whatever its value
 pub no_joined_split : meaning_of (codes "explore" ∷ codes "--join" ∷ codes "--split" ∷ codes "few" ∷ []) ≡ None

@@ -1,4 +1,4 @@
-//! `explore [--source] [--plan HARTS] [--states N] [--turns N] [--record K] [--split N] [--from START] [--join]`.
+//! `explore [--source] [--plan HARTS] [--states N] [--turns N] [--record K] [--split N] [--from START] [--join] [--progress]`.
 
 ghost use Rattle.std.specs.Prelude.{IfOk};
 ghost use Rattle.clap.specs.Walk.{rows_of};
@@ -49,6 +49,15 @@ means that the search stopped after --states states. Between two calls that
 other ranks may answer, a rank runs alone. If that takes more than --turns turns,
 and states are left, the line says `not all: rank 0 takes more than 1000000 turns
 alone`. There is no budget.
+
+A search may take long. --progress prints a line on standard error after 100,
+200, .. 900, 1000, 2000, .. states: how many of them are ends, and how many more
+were found.
+
+  searched 3000 states in pass 1: 2 ends, 411 left
+
+The search may begin again, with what it learnt about the ranks. That is its next
+pass, which counts from 0.
 
 --record writes the record of a run to outcome K instead, for `rvmc list`,
 `check`, `draw`, `page`, `debug`, `gdb` and `why`. If there is none, that is an error,
@@ -130,6 +139,10 @@ static PARTS: &[Part] = &[
         "join",
         "Read what --from printed for each start, list all outcomes",
     ),
+    Part::Flag(
+        "progress",
+        "Say on standard error now and then how far the search is",
+    ),
 ];
 
 /// The command as clap builds it.
@@ -200,7 +213,7 @@ fn fits<'a>(matches: &ArgMatches<'a>) -> Result<(), Wrong<'a>>
         matches,
         "join",
         &[
-            "source", "plan", "states", "turns", "record", "split", "from",
+            "source", "plan", "states", "turns", "record", "split", "from", "progress",
         ],
     )?;
     apart(matches, "split", &["from", "states", "record"])?;
@@ -213,12 +226,14 @@ fn ends<'a>(alloc: Global, matches: &ArgMatches<'a>, turns: u64) -> Result<Image
 {
     let states = states(matches)?;
     let record = end(matches)?;
+    let progress = values::flag(matches, "progress");
     if let Some(start) = beginning(alloc, matches)? {
         return Ok(ImageCommand::ExploreFrom {
             start,
             states,
             turns,
             record,
+            progress,
         });
     }
     let plan = list(alloc, matches, "plan")?;
@@ -227,6 +242,7 @@ fn ends<'a>(alloc: Global, matches: &ArgMatches<'a>, turns: u64) -> Result<Image
         states,
         turns,
         record,
+        progress,
     })
 }
 
@@ -239,7 +255,12 @@ fn search<'a>(alloc: Global, matches: &ArgMatches<'a>) -> Result<ImageCommand, W
         return ends(alloc, matches, turns);
     };
     let plan = list(alloc, matches, "plan")?;
-    Ok(ImageCommand::Split { plan, count, turns })
+    Ok(ImageCommand::Split {
+        plan,
+        count,
+        turns,
+        progress: values::flag(matches, "progress"),
+    })
 }
 
 /// What it asks for, of what clap found.

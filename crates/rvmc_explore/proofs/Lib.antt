@@ -1,7 +1,8 @@
 pub mod Listed
 pub mod Marked
 pub mod Endless
-mod OneList
+pub mod EndTexts
+pub mod OneList
 pub mod ToEnds
 pub mod EachStart
 pub mod Apart

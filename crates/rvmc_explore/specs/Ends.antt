@@ -10,7 +10,7 @@ use Rattle.cl_state.specs.Rank.{Rank}
 use Rattle.cl_state.specs.Room.{rank_of}
 use Rattle.cl_state.specs.declared.state.RankState.{RankState}
 use Rattle.cl_replay.specs.declared.states.ClusterState.{ClusterState}
-use Rattle.rvmc_inspect.specs.Why.{IsWhy}
+use Rattle.rvmc_picture.specs.Below.{IsWhy}
 use Rattle.rvmc_report.specs.Report.{harts_text, newline, output_text}
 
 -- ---- who waits

@@ -12,7 +12,7 @@ use Rattle.cl_moves.specs.Standing.{IsWay, by_order, first_node}
 use Rattle.cl_explore.specs.Ends.{AreAlikeEnds}
 use Rattle.cl_replay.specs.States.{ClusterStandsFor}
 use Rattle.cl_replay.specs.declared.states.ClusterState.{ClusterState}
-use Rattle.rvmc_inspect.specs.Why.{company_text}
+use Rattle.rvmc_picture.specs.Below.{company_text}
 use Rattle.rvmc_explore.specs.Ends.{IsEndText, end_rank_text, one_waits}
 use Rattle.rvmc_explore.specs.Outcomes.{HasBody, IsEndBody, IsListOf}
 use Rattle.rvmc_explore.specs.Recorded.{RecordsEnd}

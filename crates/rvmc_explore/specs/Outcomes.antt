@@ -5,7 +5,7 @@ use Rattle.cl_explore.specs.Ends.{Findings}
 use Rattle.cl_explore.specs.declared.companies.Company.{Company}
 use Rattle.cl_explore.specs.declared.kept.KeptNode.{KeptNode}
 use Rattle.cl_replay.specs.declared.states.ClusterState.{ClusterState}
-use Rattle.rvmc_inspect.specs.Why.{company_text}
+use Rattle.rvmc_picture.specs.Below.{company_text}
 use Rattle.rvmc_explore.specs.Ends.{IsEndText}
 use Rattle.rvmc_explore.specs.Searched.{GoesTo, IsSearched}
 use Rattle.rvmc_explore.specs.There.{IsKeptState}

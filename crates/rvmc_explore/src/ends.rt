@@ -9,7 +9,7 @@ use cl_replay::ClusterState;
 use cl_state::RankState;
 use rv_hart::{Hart, Mode};
 use rv_image_types::Image;
-use rvmc_inspect::why;
+use rvmc_picture::why;
 use rvmc_report::report::{put_harts, put_output};
 use std::alloc::{AllocError, Global};
 

@@ -17,6 +17,7 @@ mod telling;
 mod unending;
 
 pub use asked::Asked;
+pub use outcomes::Outcome;
 pub use recording::recorded;
 pub use splitting::split;
 pub use starting::{Reach, StartFault, explored_from, recorded_from};

@@ -10,12 +10,12 @@ use crate::telling::state_at;
 use crate::unending::leading_to;
 use cl_explore::{Company, Exploration};
 use rv_image_types::Image;
-use rvmc_inspect::put_company;
+use rvmc_picture::put_company;
 use std::alloc::{AllocError, Global};
 
 /// What is told of a state that was found: an end, or ranks that are stuck there while others run on.
 #[derive(Drop)]
-pub(crate) struct Outcome {
+pub struct Outcome {
     /// The number of its node.
     pub node: usize,
     /// All that is told below its line.

@@ -5,6 +5,7 @@ ghost use Rattle.std.specs.Option.{option_map};
 ghost use Rattle.rvmc_explore.specs.InnerRecorded.{LeadInOrder, RecordsIn};
 ghost use Rattle.rvmc_explore.specs.Outcomes.{nodes_told};
 ghost use Rattle.rvmc_explore.specs.Recorded.{RecordsEnd, numbered};
+ghost use Rattle.cl_lines.specs.Telling.{TellsProgress};
 
 use crate::asked::Asked;
 use crate::outcomes::{Outcome, tell};
@@ -13,6 +14,7 @@ use cl_machine::Step;
 use cl_moves::MoveFault;
 use rv_image_types::Image;
 use std::alloc::{AllocError, Global};
+use std::io::Write;
 
 /// The node of the outcome of this number, from 1.
 fn numbered(told: &[Outcome], number: u64) -> Option<usize>
@@ -56,15 +58,17 @@ pub(crate) fn record_in(
 /// order of a record: a run that comes there. None where there are fewer.
 ///
 /// Refusals: Clock, Memory.
-pub fn recorded(
+pub fn recorded<E: Write>(
     alloc: Global,
     image: &Image,
     asked: &Asked<'_>,
     number: u64,
+    err: &mut E,
 ) -> Result<Option<Vec<Step>>, MoveFault>
     requires { 0 < length asked.now.order.now }
-    ensures { IfOk result (λ steps. RecordsEnd image.now asked.now.order.now asked.now.states asked.now.turns number
+    ensures steps { IfOk result (λ steps. RecordsEnd image.now asked.now.order.now asked.now.states asked.now.turns number
         (option_map (λ s. s.items) steps)) }
+    ensures progress { TellsProgress asked.now.progress (E.contents err.old) (E.contents err.new) }
 {
     // ghost: brings into scope that the parts are those of an image; no effect at run time
     let _parts = image.parts();
@@ -72,8 +76,9 @@ pub fn recorded(
         alloc,
         order: asked.order,
         most: asked.turns,
+        progress: asked.progress,
     };
-    let found = explore(&course, image, asked.states)?;
+    let found = explore(&course, image, asked.states, err)?;
     let told = tell(alloc, image, asked.order, &found)?;
     Ok(record_in(alloc, &found, told.as_slice(), number)?)
 }

@@ -6,6 +6,7 @@ ghost use Rattle.rv_image.specs.Text.{image_text};
 ghost use Rattle.rvmc_starts.specs.Sums.{sum_of};
 ghost use Rattle.rvmc_explore.specs.Splitting.{AddsLeft, AddsNowhere, AreStartsAt, HasEachStart, IsSplit, IsStartAt, split_sum, start_line, with_split};
 ghost use Rattle.rvmc_explore.specs.There.{AreInside};
+ghost use Rattle.cl_lines.specs.Telling.{TellsProgress};
 
 use crate::asked::Asked;
 use crate::unending::leading_to;
@@ -16,6 +17,7 @@ use rv_image_types::Image;
 use rvmc_starts::{ImageSum, Start, Turns, put_start, sum_of};
 use rvmc_words::Numbers;
 use std::alloc::{AllocError, Global};
+use std::io::Write;
 
 /// By what the image is known again.
 pub(crate) fn sum_of_image(alloc: Global, image: &Image) -> Result<ImageSum, AllocError>
@@ -157,21 +159,24 @@ fn set_split(starts: &mut [Start], split: u64)
 /// are allowed. Each says where its turns lead, and all of them together lead to all ends.
 ///
 /// Refusals: Clock, Memory.
-pub fn split(
+pub fn split<E: Write>(
     alloc: Global,
     image: &Image,
     asked: &Asked<'_>,
     least: usize,
+    err: &mut E,
 ) -> Result<Vec<u8>, MoveFault>
     requires { 0 < length asked.now.order.now }
-    ensures { IfOk result (λ text. IsSplit image.now asked.now.order.now asked.now.states asked.now.turns least text.items) }
+    ensures starts { IfOk result (λ text. IsSplit image.now asked.now.order.now asked.now.states asked.now.turns least text.items) }
+    ensures progress { TellsProgress asked.now.progress (E.contents err.old) (E.contents err.new) }
 {
     let course = Course {
         alloc,
         order: asked.order,
         most: asked.turns,
+        progress: asked.progress,
     };
-    let found = searched_apart(&course, image, asked.states, least)?;
+    let found = searched_apart(&course, image, asked.states, least, err)?;
     let numbers = starts_of(alloc, &found)?;
     let common = Common {
         image: sum_of_image(alloc, image)?,

@@ -5,6 +5,7 @@ ghost use Rattle.std.specs.Option.{option_map};
 ghost use Rattle.rv_image.specs.Text.{image_text};
 ghost use Rattle.cl_explore.specs.Ends.{ExploredBehind, IsBounded, findings};
 ghost use Rattle.rvmc_starts.specs.Sums.{sum_of};
+ghost use Rattle.cl_lines.specs.Telling.{TellsProgress};
 ghost use Rattle.rvmc_explore.specs.Starting.{AreEndsTold, IsEndTold, IsLine, RecordsEndBehind, StartFaultHolds, TellsFrom};
 ghost use Rattle.rvmc_explore.specs.declared.outcomes.Outcome.{Outcome as OutcomeView};
 ghost use Rattle.rvmc_explore.specs.declared.starting.StartFault.TheVariants as faults;
@@ -22,6 +23,7 @@ use rv_image_types::Image;
 use rvmc_starts::{EndText, Ends, Part, Start, Text, put_part};
 use rvmc_words::Numbers;
 use std::alloc::{AllocError, Global};
+use std::io::Write;
 
 /// Why nothing is told of a start.
 #[derive(Clone, Copy, Drop)]
@@ -42,11 +44,13 @@ impl From<AllocError> for StartFault {
     }
 }
 
-/// Of how many states a search from a start makes the moves at most, and how many turns a rank takes by itself at once.
+/// Of how many states a search from a start makes the moves at most, how many turns a rank takes by itself at once, and
+/// whether lines are wanted that say how far it came.
 #[derive(Clone, Copy, Drop)]
 pub struct Reach {
     pub states: usize,
     pub turns: u64,
+    pub progress: bool,
 }
 
 /// The bytes before the first newline.
@@ -104,17 +108,20 @@ fn ends_told(
 /// A search from a start.
 ///
 /// Refusals: OtherImage, then NoTurn, and Memory.
-fn searched(
+#[tactic(auto, using(cl_lines::proofs::Behind::nothing_told))]
+fn searched<E: Write>(
     alloc: Global,
     image: &Image,
     start: &Start,
     reach: Reach,
+    err: &mut E,
 ) -> Result<Exploration, StartFault>
     requires { 0 < length start.now.harts }
     ensures known { IfOk result (λ found. start.now.image ≡ sum_of (image_text image.now)) }
     ensures ends { IfOk result (λ found. ExploredBehind image.now start.now.harts start.now.turns (findings found)) }
     ensures most { IfOk result (λ found. IsBounded reach.states None reach.turns found.nodes.items found.left) }
     ensures fault { IfErr result (StartFaultHolds image.now start.now) }
+    ensures progress { TellsProgress reach.progress (E.contents err.old) (E.contents err.new) }
 {
     if sum_of_image(alloc, image)? != start.image {
         return Err(StartFault::OtherImage);
@@ -123,8 +130,9 @@ fn searched(
         alloc,
         order: start.harts.as_slice(),
         most: reach.turns,
+        progress: reach.progress,
     };
-    match explore_from(&course, image, start.turns.as_slice(), reach.states) {
+    match explore_from(&course, image, start.turns.as_slice(), reach.states, err) {
         Ok(found) => Ok(found),
         Err(OrderFault::NoTurn(turn)) => Err(StartFault::NoTurn(turn)),
         Err(OrderFault::Move(_)) => Err(StartFault::Memory),
@@ -136,19 +144,21 @@ fn searched(
 ///
 /// Refusals: OtherImage where the start is one of another image; NoTurn where its turns lead nowhere; Memory, also where a
 /// clock came to its end.
-pub fn explored_from(
+pub fn explored_from<E: Write>(
     alloc: Global,
     image: &Image,
     start: &Start,
     reach: Reach,
+    err: &mut E,
 ) -> Result<Told, StartFault>
     requires { 0 < length start.now.harts }
     ensures told { IfOk result (λ told. TellsFrom image.now start.now reach.states reach.turns told.text.items told.status) }
     ensures fault { IfErr result (StartFaultHolds image.now start.now) }
+    ensures progress { TellsProgress reach.progress (E.contents err.old) (E.contents err.new) }
 {
     // ghost: brings into scope that the parts are those of an image; no effect at run time
     let _parts = image.parts();
-    let found = searched(alloc, image, start, reach)?;
+    let found = searched(alloc, image, start, reach, err)?;
     let order = start.harts.as_slice();
     let told = tell(alloc, image, order, &found)?;
     let ends = ends_told(alloc, image, &found, told.as_slice())?;
@@ -175,21 +185,23 @@ pub fn explored_from(
 /// the order of a record. None where there are fewer.
 ///
 /// Refusals: as those of `explored_from`.
-pub fn recorded_from(
+pub fn recorded_from<E: Write>(
     alloc: Global,
     image: &Image,
     start: &Start,
     reach: Reach,
     number: u64,
+    err: &mut E,
 ) -> Result<Option<Vec<Step>>, StartFault>
     requires { 0 < length start.now.harts }
     ensures steps { IfOk result (λ steps. RecordsEndBehind image.now start.now reach.states reach.turns number
         (option_map (λ s. s.items) steps)) }
     ensures fault { IfErr result (StartFaultHolds image.now start.now) }
+    ensures progress { TellsProgress reach.progress (E.contents err.old) (E.contents err.new) }
 {
     // ghost: brings into scope that the parts are those of an image; no effect at run time
     let _parts = image.parts();
-    let found = searched(alloc, image, start, reach)?;
+    let found = searched(alloc, image, start, reach, err)?;
     let told = tell(alloc, image, start.harts.as_slice(), &found)?;
     Ok(record_in(alloc, &found, told.as_slice(), number)?)
 }

@@ -3,6 +3,7 @@
 ghost use Rattle.std.specs.Prelude.{◌≡◌, ◌<◌, ◌+◌, Some, IfOk, OnOk, length, slice_get};
 ghost use Rattle.rvmc_explore.specs.Telling.{AddsOutcome, AddsOutcomes, Tells};
 ghost use Rattle.rvmc_explore.specs.There.{IsKeptState};
+ghost use Rattle.cl_lines.specs.Telling.{TellsProgress};
 ghost use Rattle.rvmc_explore.specs.declared.outcomes.Outcome.{Outcome as OutcomeView};
 
 use crate::asked::Asked;
@@ -16,6 +17,7 @@ use cl_moves::MoveFault;
 use cl_replay::ClusterState;
 use rv_image_types::Image;
 use std::alloc::{AllocError, Global};
+use std::io::Write;
 
 /// What is told of a search, and its status.
 #[derive(Drop)]
@@ -75,13 +77,19 @@ fn put_told(
 /// run on what they wait for; of each the first message by which it differs from the first one; whether some runs go on for
 /// ever, to no end; in the last line whether these are all. No two have the same text. The status is 4 where they aren't all,
 /// else 3 where a hart trapped at an end, else 7 where a hart that takes turns waits at one, or some ranks are stuck, else 8
-/// where some runs go on for ever, else 0.
+/// where some runs go on for ever, else 0. Where that is wanted, lines on `err` say how far the search came.
 ///
 /// Refusals: Clock, Memory.
-pub fn explored(alloc: Global, image: &Image, asked: &Asked<'_>) -> Result<Told, MoveFault>
+pub fn explored<E: Write>(
+    alloc: Global,
+    image: &Image,
+    asked: &Asked<'_>,
+    err: &mut E,
+) -> Result<Told, MoveFault>
     requires { 0 < length asked.now.order.now }
-    ensures { IfOk result (λ told. Tells image.now asked.now.order.now asked.now.states asked.now.turns told.text.items
+    ensures told { IfOk result (λ told. Tells image.now asked.now.order.now asked.now.states asked.now.turns told.text.items
         told.status) }
+    ensures progress { TellsProgress asked.now.progress (E.contents err.old) (E.contents err.new) }
 {
     // ghost: brings into scope that the parts are those of an image; no effect at run time
     let _parts = image.parts();
@@ -89,8 +97,9 @@ pub fn explored(alloc: Global, image: &Image, asked: &Asked<'_>) -> Result<Told,
         alloc,
         order: asked.order,
         most: asked.turns,
+        progress: asked.progress,
     };
-    let found = explore(&course, image, asked.states)?;
+    let found = explore(&course, image, asked.states, err)?;
     let told = tell(alloc, image, asked.order, &found)?;
     let mut text = Vec::new(alloc);
     put_told(alloc, &mut text, image, &found, told.as_slice())?;

@@ -1,19 +1,17 @@
 -- Lines of hints, and their beginnings.
-use Rattle.std.proofs.Common.{◌≡◌, ◌∙◌, ◌<◌, ◌^◌, ◌∷◌, min, ℕ, List, [], ◌+◌, ◌++◌, ◌-◌, subst, Option, Some, None, ap, append-nil, arith, codes, length, refl, sym, take, drop}
+use Rattle.std.proofs.Common.{◌≡◌, ◌∙◌, ◌<◌, ◌^◌, ◌∷◌, min, ℕ, List, [], ◌++◌, Option, Some, None, ap, append-nil, arith, codes, length, refl, sym, take}
 use Rattle.std.specs.Prelude.{◌==◌}
 use Rattle.std.specs.Fmt.{decimal}
 use Rattle.std.specs.Io.{StartsWith}
-use Rattle.std.specs.Io.KnownBytes.{Appends, Keeps}
+use Rattle.std.specs.Io.KnownBytes.{Appends}
 use Rattle.std.specs.Str.Parse.{AllDigits}
-use Rattle.std.proofs.KnownBytes.{Appends-kept, Appends-trans}
-use Rattle.std.proofs.Math.Seq.{take-add}
 use Rattle.std.proofs.lemmas.Bool.{ne_eqb}
 use Rattle.std.proofs.lemmas.Fmt.{decimal_is_IsNumeral}
-use Rattle.std.proofs.lemmas.List.{length-take, take_min, take_rest}
+use Rattle.std.proofs.lemmas.List.{length-take, take_min}
 use Rattle.std.proofs.lemmas.List.Folds.{list_any-append}
 use Rattle.std.proofs.lemmas.Str.Parse.{digit_from_value}
 use Rattle.rvmc_hints.specs.HintLines.{AppendsHint, IsOneLine, hint_line}
-use Rattle.rvmc_hints.specs.Runs.{AppendsBeginning}
+use Rattle.cl_lines.specs.Beginnings.{AppendsBeginning}
 
 digits_are_one_line : (ds : List ℕ) → AllDigits 10 ds → IsOneLine ds
 digits_are_one_line [] d = refl
@@ -38,29 +36,6 @@ hint_from_beginning text line old new one_line is (count, appends) =
   where
     begins : StartsWith (hint_line text) (take count line)
     begins = ap (λ n. take n (hint_line text)) (length-take count line) ∙ (ap (λ l. take (min count (length l)) (hint_line text)) is ∙ (take_min count (hint_line text) ∙ ap (take count) (sym is)))
-
--- one more piece of a line, of what was left of it
-pub beginning_goes_on : (line : List ℕ) (old mid new : Option (List ℕ)) (done count : ℕ) → Appends old mid (take done line)
-    → Appends mid new (take count (take (length line - done) (drop done line))) → Appends old new (take (done + count) line)
-beginning_goes_on line old mid new done count before then =
-    let piece : Appends mid new (take count (drop done line)) = subst (λ (rest : List ℕ). Appends mid new (take count rest)) (take_rest line done) then in
-    rw (take-add done count line) (Appends-trans old mid new _ _ before piece)
-
--- no piece of it, where nothing is taken
-pub none_taken : (text : List ℕ) (old new : Option (List ℕ)) → Keeps old new → Appends old new (take 0 text)
-none_taken text None new keeps = tt
-none_taken text (Some xs) None keeps = absurd keeps
-none_taken text (Some xs) (Some ys) keeps = keeps ∙ sym (append-nil xs)
-
-pub nothing_taken : (text : List ℕ) (old new : Option (List ℕ)) → Appends old new (take 0 text) → Keeps old new
-nothing_taken text None new appends = tt
-nothing_taken text (Some xs) None appends = absurd appends
-nothing_taken text (Some xs) (Some ys) appends = appends ∙ append-nil xs
-
--- what was written stays
-pub beginning_stays : (line : List ℕ) (old mid new : Option (List ℕ)) (done : ℕ) → Appends old mid (take done line) → Keeps mid new
-    → AppendsBeginning line old new
-beginning_stays line old mid new done before keeps = (done, Appends-kept old mid new (take done line) before keeps)
 
 nothing_appended : (old : Option (List ℕ)) → Appends old old []
 nothing_appended None = tt

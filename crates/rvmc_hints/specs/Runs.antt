@@ -1,7 +1,6 @@
 -- What hints say of a run that is as it should be, and how their lines are written.
-use Rattle.std.specs.Prelude.{ℕ, ◌*◌, min, nat_le, if◌then◌else◌, List, ◌++◌, Option, None, Some, codes, take}
+use Rattle.std.specs.Prelude.{ℕ, ◌*◌, min, nat_le, if◌then◌else◌, List, ◌++◌, Option, None, Some, codes}
 use Rattle.std.specs.Fmt.{decimal}
-use Rattle.std.specs.Io.KnownBytes.{Appends}
 use Rattle.rvmc_hints.specs.declared.runs.RunHint.{RunHint}
 use Rattle.rvmc_hints.specs.declared.runs.RunHint.TheVariants.{LongRecord, Spent, SpentAll, States, StatesAll, Turns, Waits, WaitsBelow}
 use Rattle.rvmc_hints.specs.declared.runs.Runner.{Runner}
@@ -35,7 +34,3 @@ run_hint_text (States states) =
 run_hint_text StatesAll = codes "states are left; rvmc explore --split 64 makes parts to search one by one"
 run_hint_text (Turns turns) =
     codes "states are left; rvmc explore --turns " ++ (decimal turns ++ codes " goes further")
-
--- so many bytes of a line, from its beginning on
-abbrev pub AppendsBeginning : List ℕ → Option (List ℕ) → Option (List ℕ) → Type 0
-AppendsBeginning line old new = (count : ℕ) × Appends old new (take count line)

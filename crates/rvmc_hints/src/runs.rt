@@ -1,12 +1,12 @@
 //! What a person can be told of a run that is as it should be, on a line of standard error.
 
-ghost use Rattle.std.specs.Prelude.{◌≡◌, ◌++◌, ◌≤◌, IfOk, IfSome, None, decimal, length, string_bytes, take};
-ghost use Rattle.std.specs.Io.KnownBytes.{Appends, Keeps};
+ghost use Rattle.std.specs.Prelude.{◌≡◌, ◌++◌, IfOk, decimal, string_bytes};
 ghost use Rattle.rvmc_hints.specs.HintLines.{AppendsHint, IsOneLine, hint_line};
-ghost use Rattle.rvmc_hints.specs.Runs.{AppendsBeginning, next_bound, run_hint_text, spent_head, waiting_head};
+ghost use Rattle.rvmc_hints.specs.Runs.{next_bound, run_hint_text, spent_head, waiting_head};
 
+use cl_lines::put_beginning;
 use std::alloc::{AllocError, Global};
-use std::io::{ErrorKind, Write};
+use std::io::Write;
 
 /// How many bytes of an input a command reads at most.
 pub const INPUT_MOST: u64 = 67_108_864;
@@ -139,41 +139,6 @@ fn line_of(alloc: Global, hint: RunHint) -> Result<String, AllocError>
 {
     let text = text_of(alloc, hint)?;
     format!(in alloc; "hint: {text}\n")
-}
-
-/// Writes some bytes of a text, and tells how many: 0 where the write was interrupted, and none where it failed, or took
-/// nothing.
-#[tactic(auto, using(crate::proofs::HintLines::none_taken, crate::proofs::HintLines::nothing_taken))]
-fn put_some<W: Write>(out: &mut W, text: &[u8]) -> Option<usize>
-    ensures within { IfSome result (λ count. count ≤ length text.now) }
-    ensures some { IfSome result (λ count. Appends (W.contents out.old) (W.contents out.new) (take count text.now)) }
-    ensures none { result ≡ None → Keeps (W.contents out.old) (W.contents out.new) }
-{
-    match out.write(text) {
-        Ok(0) => None,
-        Ok(count) => Some(count),
-        Err(error) => {
-            if error.kind() == ErrorKind::Interrupted {
-                Some(0)
-            } else {
-                None
-            }
-        }
-    }
-}
-
-/// Writes as much of a line as the writer takes: all of it, or what it took before a write failed.
-#[tactic(auto, using(crate::proofs::HintLines::beginning_stays))]
-fn put_beginning<W: Write>(out: &mut W, line: &[u8])
-    ensures { AppendsBeginning line.now (W.contents out.old) (W.contents out.new) }
-{
-    let mut done = 0;
-    for _turn in 0..=line.len() {
-        match put_some(out, &line[done..]) {
-            Some(count) => done += count,
-            None => return,
-        }
-    }
 }
 
 /// Writes the line of a hint. One that can't be written as a whole, or for which memory is refused, changes nothing

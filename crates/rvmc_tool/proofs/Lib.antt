@@ -1,2 +1,4 @@
 pub mod Fitting
 pub mod Told
+pub mod Below
+pub mod Aloud

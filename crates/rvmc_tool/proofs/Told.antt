@@ -11,11 +11,9 @@ use Rattle.rvmc_line.specs.declared.line.CommandLine.TheVariants.{Join, OfImage,
 use Rattle.rvmc_line.specs.declared.line.ImageCommand.{ImageCommand}
 use Rattle.rvmc_line.specs.declared.line.ImageCommand.TheVariants.{Explore, ExploreFrom, One, OneUntilStuck, Run, RunUntilStuck, Split}
 use Rattle.rvmc_line.specs.declared.line.RecordCommand.{RecordCommand}
-use Rattle.rvmc_report.specs.Faults.{fault_status}
-use Rattle.rvmc_report.specs.declared.faults.ExploreRefusal.{ExploreRefusal}
-use Rattle.rvmc_report.specs.declared.faults.ExploreRefusal.TheVariants as refusals
-use Rattle.rvmc_report.specs.declared.faults.Fault.{Fault}
-use Rattle.rvmc_report.specs.declared.faults.Fault.TheVariants as faults
+use Rattle.rvmc_answers.specs.Below.{ExploreRefusal, Fault, fault_status}
+use Rattle.rvmc_answers.specs.Below.explored as refusals
+use Rattle.rvmc_answers.specs.Below.faults
 use Rattle.rvmc_tool.specs.Answers.{HasThreads, Makes, Says}
 use Rattle.rvmc_answers.specs.Ends.{IsFaulty, end_status}
 use Rattle.rvmc_tool.specs.Exploring.{IsToldOfSearch}
@@ -42,18 +40,18 @@ misplanned (One budget plan order written) image (plans, of, wrong) =
     (plans, of, record { told = λ right. absurd (wrong right); refused = λ _. (refl, refl) })
 misplanned (OneUntilStuck budget plan order written) image (plans, of, wrong) =
     (plans, of, record { told = λ right. absurd (wrong right); refused = λ _. (refl, refl) })
-misplanned (Explore plan states turns number) image (plans, of, wrong) =
+misplanned (Explore plan states turns number progress) image (plans, of, wrong) =
     (plans, of, record { told = λ right. absurd (wrong right); refused = λ _. (refl, refl) })
-misplanned (Split plan count turns) image (plans, of, wrong) =
+misplanned (Split plan count turns progress) image (plans, of, wrong) =
     (plans, of, record { told = λ right. absurd (wrong right); refused = λ _. (refl, refl) })
-misplanned (ExploreFrom start states turns number) image (plans, of, wrong) =
+misplanned (ExploreFrom start states turns number progress) image (plans, of, wrong) =
     (plans, of, record { told = λ right. absurd (wrong right); refused = λ _. (refl, refl) })
 misplanned other image wrong = absurd wrong
 
 -- and so is the record of an end that isn't there, and a start that isn't one
 unexplored : (command : ImageCommand) (image : ImageParts) (refusal : ExploreRefusal) → IsUnexplored command image refusal
     → Makes command image [] 1
-unexplored (Explore plan states turns asked) image (refusals.NoOutcome number) (plans, of, (right, (is, none))) = (
+unexplored (Explore plan states turns asked progress) image (refusals.NoOutcome number) (plans, of, (right, (is, none))) = (
   plans,
   of,
   record {
@@ -61,8 +59,8 @@ unexplored (Explore plan states turns asked) image (refusals.NoOutcome number) (
     refused = λ wrong. absurd (wrong right);
   },
 )
-unexplored (Explore plan states turns asked) image other (plans, of, (right, never)) = absurd never
-unexplored (ExploreFrom start states turns asked) image refusal (plans, of, (right, none)) =
+unexplored (Explore plan states turns asked progress) image other (plans, of, (right, never)) = absurd never
+unexplored (ExploreFrom start states turns asked progress) image refusal (plans, of, (right, none)) =
     (plans, of, record { told = λ _. inr ((refusal, none), (refl, refl)); refused = λ wrong. absurd (wrong right) })
 unexplored other image refusal unexplored_is = absurd unexplored_is
 

@@ -10,7 +10,7 @@ use Rattle.rvmc_line.specs.declared.line.CommandLine.TheVariants.{Join, OfImage,
 use Rattle.rvmc_line.specs.declared.line.ImageCommand.{ImageCommand}
 use Rattle.rvmc_line.specs.declared.line.ImageCommand.TheVariants.{Asm, Dis, Explore, ExploreFrom, One, OneUntilStuck, Run, RunUntilStuck, Split}
 use Rattle.rvmc_line.specs.declared.line.Written.TheVariants as written
-use Rattle.rvmc_report.specs.Listing.{listing}
+use Rattle.rvmc_answers.specs.Below.{listing}
 use Rattle.rvmc_answers.specs.Ends.{IsDone, IsFaulty}
 use Rattle.rvmc_tool.specs.Exploring.{IsToldOfSearch}
 use Rattle.rvmc_answers.specs.Images.{image_in}
@@ -58,9 +58,9 @@ Makes (RunUntilStuck budget plan lead written) image text status =
 Makes (One budget plan order written) image text status = IsOne image budget plan order written text status
 Makes (OneUntilStuck budget plan order written) image text status =
     IsOneUntilStuck image budget plan order written text status
-Makes (Explore plan states turns number) image text status = IsExplored image plan states turns number text status
-Makes (Split plan count turns) image text status = IsSplitOf image plan count turns text status
-Makes (ExploreFrom start states turns number) image text status =
+Makes (Explore plan states turns number progress) image text status = IsExplored image plan states turns number text status
+Makes (Split plan count turns progress) image text status = IsSplitOf image plan count turns text status
+Makes (ExploreFrom start states turns number progress) image text status =
     IsExploredFrom image start states turns number text status
 
 -- what a command says that takes an image from the bytes, or with `source` a source

@@ -7,3 +7,5 @@ pub mod Making
 pub mod Made
 pub mod Tool
 pub mod Plain
+pub mod Below
+pub mod Progress

@@ -4,8 +4,7 @@ use Rattle.cl_text.specs.Reading.{reading_record}
 use Rattle.rvmc_line.specs.declared.line.CommandLine.{CommandLine}
 use Rattle.rvmc_line.specs.declared.line.CommandLine.TheVariants.{Join, OfImage, OfRecord, Session, WordSession}
 use Rattle.rvmc_line.specs.declared.line.RecordCommand.{RecordCommand}
-use Rattle.rvmc_report.specs.Faults.{fault_status}
-use Rattle.rvmc_report.specs.declared.faults.Fault.{Fault}
+use Rattle.rvmc_answers.specs.Below.{Fault, fault_status}
 use Rattle.rvmc_views.specs.Faults.{IsReadFault}
 use Rattle.rvmc_views.specs.Records.{is_in_pieces, record_part}
 use Rattle.rvmc_views.specs.Pieces.{IsMade, LeavesPieces}

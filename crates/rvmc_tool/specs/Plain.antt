@@ -8,8 +8,7 @@ use Rattle.rvmc_answers.specs.Outputs.{output_bytes}
 use Rattle.rvmc_answers.specs.declared.answers.Answer.{Answer}
 use Rattle.rvmc_cli.specs.Meaning.{meaning_of}
 use Rattle.rvmc_line.specs.declared.line.CommandLine.{CommandLine}
-use Rattle.rvmc_report.specs.Faults.{fault_status}
-use Rattle.rvmc_report.specs.declared.faults.Fault.{Fault}
+use Rattle.rvmc_answers.specs.Below.{Fault, fault_status}
 use Rattle.rvmc_tool.specs.Tool.{RefusesWords}
 
 -- what words mean where there are no threads: `run` is no command there

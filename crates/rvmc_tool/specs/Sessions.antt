@@ -2,8 +2,7 @@
 use Rattle.std.specs.Prelude.{◌≡◌, ℕ, Bool, true, false, List, Option, None, Some}
 use Rattle.rvmc_line.specs.declared.line.CommandLine.{CommandLine}
 use Rattle.rvmc_line.specs.declared.line.CommandLine.TheVariants.{Session, WordSession}
-use Rattle.rvmc_report.specs.Faults.{fault_status}
-use Rattle.rvmc_report.specs.declared.faults.Fault.{Fault}
+use Rattle.rvmc_answers.specs.Below.{Fault, fault_status}
 use Rattle.rvmc_serve.specs.Lines.{IsWordSession}
 use Rattle.rvmc_serve.specs.Sessions.{IsSession}
 

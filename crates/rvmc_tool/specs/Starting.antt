@@ -10,10 +10,9 @@ use Rattle.cl_text.specs.Text.{record_text}
 use Rattle.cl_text.specs.Whole.{IsRecord}
 use Rattle.rvmc_explore.specs.Splitting.{IsSplit}
 use Rattle.rvmc_explore.specs.Starting.{RecordsEndBehind, TellsFrom}
-use Rattle.rvmc_report.specs.declared.faults.ExploreRefusal.{ExploreRefusal}
-use Rattle.rvmc_report.specs.declared.faults.ExploreRefusal.TheVariants as refusal
-use Rattle.rvmc_report.specs.declared.faults.Fault.{Fault}
-use Rattle.rvmc_report.specs.declared.faults.Fault.TheVariants as faults
+use Rattle.rvmc_answers.specs.Below.{ExploreRefusal, Fault}
+use Rattle.rvmc_answers.specs.Below.explored as refusal
+use Rattle.rvmc_answers.specs.Below.faults
 use Rattle.rvmc_starts.specs.Joining.{IsJoined, NoText, OtherText}
 use Rattle.rvmc_starts.specs.Sums.{sum_of}
 use Rattle.rvmc_starts.specs.declared.joining.Joined.{Joined}

@@ -2,8 +2,8 @@
 use Rattle.std.specs.Prelude.{ℕ, ◌≡◌, List, Option, Some, None}
 use Rattle.rv_image_types.specs.declared.images.ImageParts.{ImageParts}
 use Rattle.rvmc_explore.specs.Recorded.{RecordsEnd}
-use Rattle.rvmc_report.specs.declared.faults.ExploreRefusal.{ExploreRefusal}
-use Rattle.rvmc_report.specs.declared.faults.ExploreRefusal.TheVariants as refusal
+use Rattle.rvmc_answers.specs.Below.{ExploreRefusal}
+use Rattle.rvmc_answers.specs.Below.explored as refusal
 
 -- it was asked for, and the list of what is told has fewer
 abbrev pub IsNoEnd : ImageParts → List ℕ → (states turns : ℕ) → Option ℕ → ExploreRefusal → Type 0

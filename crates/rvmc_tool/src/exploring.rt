@@ -1,6 +1,7 @@
 //! `explore`: the ends of all orders of ranks' turns, ranks that are stuck while others run on, and the record of one.
 
 ghost use Rattle.std.specs.Prelude.{◌≡◌, ◌<◌, IfErr, IfOk, Some, length};
+ghost use Rattle.cl_lines.specs.Telling.{TellsProgress};
 ghost use Rattle.cl_record.specs.Plans.{HasPlans};
 ghost use Rattle.rvmc_explore.specs.Telling.{Tells};
 ghost use Rattle.rv_image_types.specs.Image.{IsImage};
@@ -15,22 +16,29 @@ ghost use Rattle.rvmc_answers.specs.Outputs.{output_bytes};
 use cl_record::has_plans;
 use cl_text::RecordText;
 use rv_image_types::Image;
+use rvmc_answers::faults::{ExploreRefusal, Fault};
 use rvmc_answers::plans::{listed, plans_of};
 use rvmc_answers::{Answer, End, Output};
 use rvmc_explore::{Asked, Told, explored, recorded};
-use rvmc_report::faults::{ExploreRefusal, Fault};
 use rvmc_words::Numbers;
 use std::alloc::Global;
+use std::io::Write;
 
 /// What is told of all ends, and its status.
-fn told(alloc: Global, image: &Image, asked: &Asked<'_>) -> Result<Answer, Fault>
+fn told<E: Write>(
+    alloc: Global,
+    image: &Image,
+    asked: &Asked<'_>,
+    err: &mut E,
+) -> Result<Answer, Fault>
     requires { 0 < length asked.now.order.now }
     ensures says { IfOk result (λ answer. Tells image.now asked.now.order.now asked.now.states asked.now.turns
         (output_bytes answer.output) (end_status answer.end)) }
     ensures whole { IfOk result (λ answer. IsWhole answer.end) }
     ensures fault { IfErr result (IsRunFault ⊥ ⊥) }
+    ensures progress { TellsProgress asked.now.progress (E.contents err.old) (E.contents err.new) }
 {
-    match explored(alloc, image, asked) {
+    match explored(alloc, image, asked, err) {
         Ok(Told { text, status }) => Ok(Answer {
             output: Output::Text(text),
             end: End::Status(status),
@@ -41,11 +49,12 @@ fn told(alloc: Global, image: &Image, asked: &Asked<'_>) -> Result<Answer, Fault
 }
 
 /// The record of the end of this number, from 1 on.
-fn record_of_end(
+fn record_of_end<E: Write>(
     alloc: Global,
     image: &Image,
     asked: &Asked<'_>,
     number: u64,
+    err: &mut E,
 ) -> Result<Answer, Fault>
     requires order { 0 < length asked.now.order.now }
     requires image { IsImage image.now }
@@ -55,8 +64,9 @@ fn record_of_end(
     ensures whole { IfOk result (λ answer. IsWhole answer.end) }
     ensures fault { IfErr result (IsMakingFault ⊥ ⊥ (IsNoEnd image.now asked.now.order.now asked.now.states asked.now.turns
         (Some number))) }
+    ensures progress { TellsProgress asked.now.progress (E.contents err.old) (E.contents err.new) }
 {
-    match recorded(alloc, image, asked, number) {
+    match recorded(alloc, image, asked, number, err) {
         Ok(Some(steps)) => {
             let output = Output::Record(RecordText::new(alloc, image, steps)?);
             let end = End::Status(0);
@@ -68,11 +78,12 @@ fn record_of_end(
 }
 
 /// What is told of all ends, or the record of one.
-fn answered(
+fn answered<E: Write>(
     alloc: Global,
     image: &Image,
     asked: &Asked<'_>,
     number: Option<u64>,
+    err: &mut E,
 ) -> Result<Answer, Fault>
     requires order { 0 < length asked.now.order.now }
     requires image { IsImage image.now }
@@ -80,22 +91,26 @@ fn answered(
         (output_bytes answer.output) (end_status answer.end)) }
     ensures whole { IfOk result (λ answer. IsWhole answer.end) }
     ensures fault { IfErr result (IsMakingFault ⊥ ⊥ (IsNoEnd image.now asked.now.order.now asked.now.states asked.now.turns number)) }
+    ensures progress { TellsProgress asked.now.progress (E.contents err.old) (E.contents err.new) }
 {
     match number {
-        None => told(alloc, image, asked),
-        Some(number) => record_of_end(alloc, image, asked, number),
+        None => told(alloc, image, asked, err),
+        Some(number) => record_of_end(alloc, image, asked, number, err),
     }
 }
 
 /// `explore`: all ends of all orders of the ranks' turns, where the harts of each rank take turns in the order that was
 /// listed, or the record of the end of this number.
-pub(crate) fn explore(
+#[tactic(auto, using(cl_lines::proofs::Behind::nothing_told))]
+pub(crate) fn explore<E: Write>(
     alloc: Global,
     image: &Image,
     harts: &Option<Numbers>,
     states: u64,
     turns: u64,
     number: Option<u64>,
+    progress: bool,
+    err: &mut E,
 ) -> Result<Answer, Fault>
     ensures says { IfOk result (λ answer.
         IsExplored image.now harts.now states turns number (output_bytes answer.output) (end_status answer.end)) }
@@ -104,6 +119,7 @@ pub(crate) fn explore(
         (ByPlans image.now turns harts.now (λ plans. ¬ (HasPlans image.now plans))) ⊥
         (λ refusal. ByPlans image.now turns harts.now (λ plans.
         HasPlans image.now plans × IsNoEnd image.now (listed harts.now image.now.harts) states turns number refusal))) }
+    ensures progress { TellsProgress progress (E.contents err.old) (E.contents err.new) }
 {
     let plans = plans_of(alloc, image, turns, harts)?;
     if !has_plans(image, plans.as_slice()) {
@@ -114,6 +130,7 @@ pub(crate) fn explore(
         order: order.as_slice(),
         states: states as usize,
         turns,
+        progress,
     };
-    answered(alloc, image, &asked, number)
+    answered(alloc, image, &asked, number, err)
 }

@@ -10,3 +10,5 @@ mod starting;
 
 pub use program::{tool, tool_plain};
 pub use rvmc_advice::tell_wait;
+pub use rvmc_serve::laws::answers_law;
+pub use rvmc_serve::{Flow, Refused, Server, heard_law, serve};

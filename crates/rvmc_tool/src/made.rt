@@ -6,7 +6,7 @@ ghost use Rattle.rvmc_hints.specs.HintLines.{AppendsHint};
 ghost use Rattle.rvmc_line.specs.declared.line.CommandLine.TheVariants.{OfRecord};
 ghost use Rattle.rvmc_line.specs.declared.line.RecordCommand.{RecordCommand};
 ghost use Rattle.rvmc_line.specs.declared.line.RecordCommand.TheVariants as command;
-ghost use Rattle.rvmc_report.specs.Input.{TakesAtMost};
+ghost use Rattle.rvmc_answers.specs.Below.{TakesAtMost};
 ghost use Rattle.rvmc_views.specs.Pieces.{IsMade, LeavesPieces, list_of};
 ghost use Rattle.rvmc_tool.specs.Made.{TellsPieces};
 ghost use Rattle.rvmc_tool.specs.Tool.{Answers};
@@ -16,8 +16,8 @@ ghost use Rattle.rvmc_advice.specs.Quiet.{is_quiet};
 
 use crate::program::take;
 use rvmc_advice::{fail, fail_with_hint};
+use rvmc_answers::faults::Fault;
 use rvmc_line::{CommandLine, SourceSizes};
-use rvmc_report::faults::Fault;
 use rvmc_views::{Wanted, put_list, put_page};
 use std::alloc::Global;
 use std::io::{Read, Write};

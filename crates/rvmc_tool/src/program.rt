@@ -10,18 +10,19 @@ ghost use Rattle.rvmc_line.specs.declared.line.CommandLine.{CommandLine as Line}
 ghost use Rattle.rvmc_tool.specs.Tool.{Answers, RefusesWords, ShowsFault};
 ghost use Rattle.rvmc_advice.specs.Quiet.{is_quiet};
 ghost use Rattle.rvmc_tool.specs.Plain.{IsWhole, plain_meaning_of, RefusesPlain, Tells};
+ghost use Rattle.rvmc_tool.specs.Progress.{TellsQuietly, want_progress, wants_progress};
 ghost use Rattle.rvmc_hints.specs.HintLines.{AppendsHint};
-ghost use Rattle.rvmc_report.specs.Input.{TakesAtMost};
+ghost use Rattle.rvmc_answers.specs.Below.{TakesAtMost};
 
 use crate::answers::{answer_to, answer_with_threads, needs_threads};
 use crate::made::{listed, paged};
 use crate::sessions::{served, served_words};
 use rvmc_advice::{fail, fail_to_read, fail_with_hint, hint_words, tell_run_hint};
+use rvmc_answers::faults::Fault;
+use rvmc_answers::input::{InputFault, read_input};
 use rvmc_answers::{Answer, End, Output};
 use rvmc_cli::parse;
 use rvmc_line::{CommandLine, ParseFault, RecordCommand};
-use rvmc_report::faults::Fault;
-use rvmc_report::input::{InputFault, read_input};
 use rvmc_views::Wanted;
 use std::alloc::Global;
 use std::io::{Read, Write};
@@ -199,7 +200,7 @@ fn obey_by_pieces<I: Read, O: Write, E: Write>(
 }
 
 /// Does what a command line asks for that needs no threads.
-#[tactic(auto, using(rvmc_advice::proofs::Quiet::hinted_behind))]
+#[tactic(auto, using(crate::proofs::Aloud::hint_alone, crate::proofs::Aloud::hint_behind))]
 fn obey<I: Read, O: Write, E: Write>(
     line: &CommandLine,
     alloc: Global,
@@ -211,7 +212,8 @@ fn obey<I: Read, O: Write, E: Write>(
     ensures answers { (bytes : List ℕ) → I.remaining input.old ≡ Some bytes → result ≢ 6
         → Answers line.now bytes result (O.contents out.old) (O.contents out.new) }
     ensures front { TakesAtMost 67112960 (I.remaining input.old) (I.remaining input.new) }
-    ensures quiet { is_quiet result ≡ true → AppendsHint (E.contents err.old) (E.contents err.new) }
+    ensures quiet { is_quiet result ≡ true
+        → TellsQuietly (wants_progress line.now) (E.contents err.old) (E.contents err.new) }
 {
     if is_written_as_made(line) {
         return obey_by_pieces(alloc, line, input, out, err);
@@ -219,7 +221,7 @@ fn obey<I: Read, O: Write, E: Write>(
     match take(alloc, input, err) {
         Ok(bytes) => {
             let whole = bytes.as_slice();
-            let answer = answer_to(alloc, line, whole);
+            let answer = answer_to(alloc, line, whole, err);
             tell(alloc, line, whole, answer, out, err)
         }
         Err(status) => status,
@@ -227,7 +229,7 @@ fn obey<I: Read, O: Write, E: Write>(
 }
 
 /// Does what any command line asks for.
-#[tactic(auto, using(rvmc_advice::proofs::Quiet::hinted_behind))]
+#[tactic(auto, using(crate::proofs::Aloud::hint_alone, crate::proofs::Aloud::hint_behind))]
 fn obey_with_threads<R: Threads + Wait + Sync, I: Read, O: Write, E: Write>(
     rt: &R,
     alloc: Global,
@@ -239,7 +241,8 @@ fn obey_with_threads<R: Threads + Wait + Sync, I: Read, O: Write, E: Write>(
     ensures answers { (bytes : List ℕ) → I.remaining input.old ≡ Some bytes → result ≢ 6
         → Answers line.now bytes result (O.contents out.old) (O.contents out.new) }
     ensures front { TakesAtMost 67112960 (I.remaining input.old) (I.remaining input.new) }
-    ensures quiet { is_quiet result ≡ true → AppendsHint (E.contents err.old) (E.contents err.new) }
+    ensures quiet { is_quiet result ≡ true
+        → TellsQuietly (wants_progress line.now) (E.contents err.old) (E.contents err.new) }
 {
     if is_written_as_made(line) {
         return obey_by_pieces(alloc, line, input, out, err);
@@ -247,7 +250,7 @@ fn obey_with_threads<R: Threads + Wait + Sync, I: Read, O: Write, E: Write>(
     match take(alloc, input, err) {
         Ok(bytes) => {
             let whole = bytes.as_slice();
-            let answer = answer_with_threads(rt, alloc, line, whole);
+            let answer = answer_with_threads(rt, alloc, line, whole, err);
             tell(alloc, line, whole, answer, out, err)
         }
         Err(status) => status,
@@ -326,9 +329,11 @@ pub fn tool<'a, R: Threads + Wait + Sync, I: Read, O: Write, E: Write>(
         → Keeps (I.remaining input.old) (I.remaining input.new) }
 
     // Whatever is answered: the input loses bytes from its front alone, and 4,096 beyond the limit at most; and with
-    // the statuses 0, 3 and 4 standard error gets nothing but one line that begins with `hint: `, or none.
+    // the statuses 0, 3, 4 and 7 standard error gets nothing but one line that begins with `hint: `, or none, and before it
+    // the lines that say how far a search came, where those are asked for.
     ensures front { TakesAtMost 67112960 (I.remaining input.old) (I.remaining input.new) }
-    ensures quiet { is_quiet result ≡ true → AppendsHint (E.contents err.old) (E.contents err.new) }
+    ensures quiet { is_quiet result ≡ true
+        → TellsQuietly (want_progress (meaning_of (map (λ w. w.now) words.entry.now))) (E.contents err.old) (E.contents err.new) }
 {
     match parse(alloc, words) {
         Ok(line) => obey_with_threads(rt, alloc, &line, input, out, err),
@@ -358,7 +363,8 @@ pub fn tool_plain<'a, I: Read, O: Write, E: Write>(
 
     // Whatever is answered.
     ensures front { TakesAtMost 67112960 (I.remaining input.old) (I.remaining input.new) }
-    ensures quiet { is_quiet result ≡ true → AppendsHint (E.contents err.old) (E.contents err.new) }
+    ensures quiet { is_quiet result ≡ true
+        → TellsQuietly (want_progress (plain_meaning_of (map (λ w. w.now) words.entry.now))) (E.contents err.old) (E.contents err.new) }
 {
     match parse(alloc, words) {
         Ok(line) => {

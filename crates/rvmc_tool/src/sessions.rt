@@ -3,14 +3,13 @@
 ghost use Rattle.std.specs.Prelude.{◌≡◌, ◌≢◌, List, Some, false, true, ℕ};
 ghost use Rattle.rvmc_hints.specs.HintLines.{AppendsHint};
 ghost use Rattle.rvmc_line.specs.declared.line.CommandLine.TheVariants.{Session, WordSession};
-ghost use Rattle.rvmc_report.specs.Faults.{fault_status};
-ghost use Rattle.rvmc_report.specs.Input.{TakesAtMost};
+ghost use Rattle.rvmc_answers.specs.Below.{TakesAtMost, fault_status};
 ghost use Rattle.rvmc_tool.specs.Tool.{Answers};
 ghost use Rattle.rvmc_advice.specs.Quiet.{is_quiet};
 
 use rvmc_advice::{fail_to_read, fail_with_hint};
+use rvmc_answers::faults::Fault;
 use rvmc_line::CommandLine;
-use rvmc_report::faults::Fault;
 use rvmc_serve::{Refused, serve, serve_words};
 use std::alloc::Global;
 use std::io::{Read, Write};

@@ -4,6 +4,7 @@
 ghost use Rattle.std.specs.Prelude.{◌≡◌, ◌<◌, ℕ, Option, IfErr, IfOk, Some, length};
 ghost use Rattle.rv_image_types.specs.Image.{IsImage};
 ghost use Rattle.rv_image_types.specs.declared.images.ImageParts.{ImageParts};
+ghost use Rattle.cl_lines.specs.Telling.{TellsProgress};
 ghost use Rattle.cl_record.specs.Plans.{HasPlans};
 ghost use Rattle.rvmc_explore.specs.Starting.{StartFaultHolds, TellsFrom};
 ghost use Rattle.rvmc_answers.specs.Plans.{ByPlans};
@@ -16,33 +17,38 @@ ghost use Rattle.rvmc_tool.specs.Starting.{IsJoinFault, IsNoStart, IsRecordBehin
 use cl_record::has_plans;
 use cl_text::RecordText;
 use rv_image_types::Image;
+use rvmc_answers::faults::{ExploreRefusal, Fault};
 use rvmc_answers::plans::{listed, plans};
 use rvmc_answers::{Answer, End, Output};
 use rvmc_explore::{
     Asked, Reach, StartFault, Told, explored_from, recorded_from, split as starts_of,
 };
-use rvmc_report::faults::{ExploreRefusal, Fault};
 use rvmc_starts::{JoinFault, Joined, Start, join_texts};
 use rvmc_words::Numbers;
 use std::alloc::Global;
+use std::io::Write;
 
 /// Of how many states a split makes the moves at most.
 const SPLIT_STATES: usize = 1_000_000;
 
 /// `explore --split`: starts from which all ends can be searched apart, so many or more, where the harts of each rank take
 /// turns in the order that was listed.
-pub(crate) fn split(
+#[tactic(auto, using(cl_lines::proofs::Behind::nothing_told))]
+pub(crate) fn split<E: Write>(
     alloc: Global,
     image: &Image,
     harts: &Option<Numbers>,
     count: u64,
     turns: u64,
+    progress: bool,
+    err: &mut E,
 ) -> Result<Answer, Fault>
     ensures says { IfOk result (λ answer.
         IsSplitOf image.now harts.now count turns (output_bytes answer.output) (end_status answer.end)) }
     ensures whole { IfOk result (λ answer. IsWhole answer.end) }
     ensures fault { IfErr result (IsRunFault
         (ByPlans image.now turns harts.now (λ plans. ¬ (HasPlans image.now plans))) ⊥) }
+    ensures progress { TellsProgress progress (E.contents err.old) (E.contents err.new) }
 {
     let order = listed(alloc, harts, image.parts().harts)?;
     let plans = plans(alloc, image.parts().ranks, order.as_slice(), turns)?;
@@ -53,8 +59,9 @@ pub(crate) fn split(
         order: order.as_slice(),
         states: SPLIT_STATES,
         turns,
+        progress,
     };
-    match starts_of(alloc, image, &asked, count as usize) {
+    match starts_of(alloc, image, &asked, count as usize, err) {
         Ok(text) => Ok(Answer {
             output: Output::Text(text),
             end: End::Status(0),
@@ -80,14 +87,21 @@ fn fault_of(start: &Start, fault: StartFault) -> Fault
 }
 
 /// What is told of a start, and its status.
-fn told(alloc: Global, image: &Image, start: &Start, reach: Reach) -> Result<Answer, Fault>
+fn told<E: Write>(
+    alloc: Global,
+    image: &Image,
+    start: &Start,
+    reach: Reach,
+    err: &mut E,
+) -> Result<Answer, Fault>
     requires { 0 < length start.now.harts }
     ensures says { IfOk result (λ answer. TellsFrom image.now start.now reach.states reach.turns (output_bytes answer.output)
         (end_status answer.end)) }
     ensures whole { IfOk result (λ answer. IsWhole answer.end) }
     ensures fault { IfErr result (IsMakingFault ⊥ ⊥ (IsNoStart image.now start.now reach.states reach.turns None)) }
+    ensures progress { TellsProgress reach.progress (E.contents err.old) (E.contents err.new) }
 {
-    match explored_from(alloc, image, start, reach) {
+    match explored_from(alloc, image, start, reach, err) {
         Ok(Told { text, status }) => Ok(Answer {
             output: Output::Text(text),
             end: End::Status(status),
@@ -97,12 +111,13 @@ fn told(alloc: Global, image: &Image, start: &Start, reach: Reach) -> Result<Ans
 }
 
 /// The record of the end of this number, from 1 on, of those behind a start.
-fn record_of_end(
+fn record_of_end<E: Write>(
     alloc: Global,
     image: &Image,
     start: &Start,
     reach: Reach,
     number: u64,
+    err: &mut E,
 ) -> Result<Answer, Fault>
     requires harts { 0 < length start.now.harts }
     requires image { IsImage image.now }
@@ -111,8 +126,9 @@ fn record_of_end(
         × (end_status answer.end ≡ 0)) }
     ensures whole { IfOk result (λ answer. IsWhole answer.end) }
     ensures fault { IfErr result (IsMakingFault ⊥ ⊥ (IsNoStart image.now start.now reach.states reach.turns (Some number))) }
+    ensures progress { TellsProgress reach.progress (E.contents err.old) (E.contents err.new) }
 {
-    match recorded_from(alloc, image, start, reach, number) {
+    match recorded_from(alloc, image, start, reach, number, err) {
         Ok(Some(steps)) => {
             let output = Output::Record(RecordText::new(alloc, image, steps)?);
             let end = End::Status(0);
@@ -124,12 +140,13 @@ fn record_of_end(
 }
 
 /// What is told of a start, or the record of one of its ends.
-fn answered(
+fn answered<E: Write>(
     alloc: Global,
     image: &Image,
     start: &Start,
     reach: Reach,
     number: Option<u64>,
+    err: &mut E,
 ) -> Result<Answer, Fault>
     requires harts { 0 < length start.now.harts }
     requires image { IsImage image.now }
@@ -137,21 +154,25 @@ fn answered(
         (output_bytes answer.output) (end_status answer.end)) }
     ensures whole { IfOk result (λ answer. IsWhole answer.end) }
     ensures fault { IfErr result (IsMakingFault ⊥ ⊥ (IsNoStart image.now start.now reach.states reach.turns number)) }
+    ensures progress { TellsProgress reach.progress (E.contents err.old) (E.contents err.new) }
 {
     match number {
-        None => told(alloc, image, start, reach),
-        Some(number) => record_of_end(alloc, image, start, reach, number),
+        None => told(alloc, image, start, reach, err),
+        Some(number) => record_of_end(alloc, image, start, reach, number, err),
     }
 }
 
 /// `explore --from`: all ends to which some order leads behind a start, or the record of the end of this number.
-pub(crate) fn explore_from(
+#[tactic(auto, using(cl_lines::proofs::Behind::nothing_told))]
+pub(crate) fn explore_from<E: Write>(
     alloc: Global,
     image: &Image,
     start: &Start,
     states: u64,
     turns: u64,
     number: Option<u64>,
+    progress: bool,
+    err: &mut E,
 ) -> Result<Answer, Fault>
     ensures says { IfOk result (λ answer. IsExploredFrom image.now start.now states turns number
         (output_bytes answer.output) (end_status answer.end)) }
@@ -160,6 +181,7 @@ pub(crate) fn explore_from(
         (ByPlans image.now turns (Some start.now.harts) (λ plans. ¬ (HasPlans image.now plans))) ⊥
         (λ refusal. ByPlans image.now turns (Some start.now.harts) (λ plans.
         HasPlans image.now plans × IsNoStart image.now start.now states turns number refusal))) }
+    ensures progress { TellsProgress progress (E.contents err.old) (E.contents err.new) }
 {
     let plans = plans(alloc, image.parts().ranks, start.harts.as_slice(), turns)?;
     if !has_plans(image, plans.as_slice()) {
@@ -168,8 +190,9 @@ pub(crate) fn explore_from(
     let reach = Reach {
         states: states as usize,
         turns,
+        progress,
     };
-    answered(alloc, image, start, reach, number)
+    answered(alloc, image, start, reach, number, err)
 }
 
 /// `explore --join`: what the texts of the starts of a split tell together.

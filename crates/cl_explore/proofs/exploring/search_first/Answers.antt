@@ -8,7 +8,7 @@ use Rattle.cl_explore.proofs.Finds.{explored_start, if_some_on}
 use Rattle.cl_explore.proofs.exploring.search_first.Goals as goal
 
 pub returns-in-Ok-clause-ends : goal.returns-in-Ok-clause-ends
-returns-in-Ok-clause-ends c =
+returns-in-Ok-clause-ends g c =
     let order = c.args.course.now.order.now in
     let contest = search_of c.args.patterns.now.kept.items in
     let well = starts_well_law contest (by_order order) c.args.image.now (λ r. refl) (λ r n. c.requires.first n)

@@ -5,7 +5,7 @@ use Rattle.cl_explore.proofs.Finds.{explored_start}
 use Rattle.cl_explore.proofs.exploring.split.Goals as goal
 
 pub returns-clause-ends : goal.returns-clause-ends
-returns-clause-ends c =
+returns-clause-ends g c =
     if_ok_on c.search_plainly.result
     (λ found from. explored_start plainly c.args.image.now c.args.course.now.order.now c.in_ok-standing.standing
     (findings found) c.in_ok-standing.ensures tt from) c.search_plainly.ensures.ends

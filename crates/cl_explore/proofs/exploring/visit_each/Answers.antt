@@ -5,18 +5,20 @@ use Rattle.cl_explore.specs.Ends.{AreEnough, HasLonger}
 use Rattle.cl_explore.proofs.Finds.{more_from, none_from, tells_from}
 use Rattle.cl_explore.proofs.exploring.visit_each.Goals as goal
 use Rattle.cl_explore.specs.How.{how_in}
+use Rattle.cl_lines.proofs.Behind.{nothing_told, told_behind}
 use Rattle.cl_explore.proofs.exploring.visit_each.Goals.{then-rest-test+then-goes_on+else-not-is_deep, then-rest-test+else-goes_on, else-rest-test}
 
 pub rest-init : goal.rest-init
-rest-init c = (
+rest-init g c = (
   λ standing begun.
       none_from (how_in c.args.course.now) c.args.course.now.order.now standing c.args.search.now
       c.new.result.items c.new-2.result.items begun c.new.ensures.items c.new-2.ensures.items,
   omega (arith),
+  nothing_told c.args.course.now.progress _,
 )
 
 pub rest-preserved : goal.rest-preserved
-rest-preserved c =
+rest-preserved g c =
     let old = c.rest.search.nodes in
     let inside : c.rest.done < length old.items = omega (arith, c.goes_on.ensures.more c.if-goes_on.true, c.len.ensures, old.ok.0) in
     let room = subst (λ ks. HasRoomAt (how_in c.args.course.now) ks c.rest.done) c.as_slice-in-rest.ensures.value
@@ -27,16 +29,17 @@ rest-preserved c =
           c.note_visit.new.noted.companies.items c.rest.done (c.rest.invariant.0 standing begun) inside room
           c.in_ok-visit.visit c.in_ok-visit.ensures.visits c.in_ok-note_visit.ensures.ends c.in_ok-note_visit.ensures.stuck,
       omega (arith, c.rest-test.true),
+      told_behind c.args.course.now.progress _ _ _ c.rest.invariant.2 c.tell_progress.ensures,
     )
 
 pub returns-clause-ends : goal.returns-clause-ends
-returns-clause-ends c = λ standing room begun.
+returns-clause-ends g c = λ standing room begun.
     tells_from (how_in c.args.course.now) c.args.course.now.order.now standing c.rest.search _
     c.rest.done room (c.rest.invariant.0 standing begun) refl refl
     (omega (arith, c.saturating_sub-left.ensures, c.len-2.ensures, c.rest.search.nodes.ok.0))
 
 pub returns-clause-most : goal.returns-clause-most
-returns-clause-most c =
+returns-clause-most g c =
     let old = c.rest.search.nodes in
     elim c.rest-test.branch [
       | then-rest-test+then-goes_on+else-not-is_deep w ↦

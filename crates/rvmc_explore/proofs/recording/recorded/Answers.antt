@@ -8,13 +8,13 @@ use Rattle.rvmc_explore.proofs.Listed.{within}
 use Rattle.rvmc_explore.proofs.recording.recorded.Goals as goal
 
 pub tell-requires : goal.tell-requires
-tell-requires c =
+tell-requires g c =
     let image = c.args.image.now in
     within image c.args.asked.now.order.now (first_node image) (findings c.in_ok-found.found) c.parts-parts.ensures.limits
     c.in_ok-found.ensures.ends
 
-pub returns : goal.returns
-returns c =
+pub returns-clause-steps : goal.returns-clause-steps
+returns-clause-steps g c =
     records_end c.args.image.now c.args.asked.now.order.now c.args.asked.now.states c.args.asked.now.turns c.in_ok-found.found
     c.in_ok-told.told.items c.args.number _ c.parts-parts.ensures.limits
     (record { explored = c.in_ok-found.ensures.ends; bounded = c.in_ok-found.ensures.most })

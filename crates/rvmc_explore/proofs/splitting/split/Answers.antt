@@ -1,7 +1,8 @@
-use Rattle.std.proofs.Common.{List, ℕ, ◌≡◌, ◌∙◌, ◌++◌, ap, drop, length, map, subst, sym, take}
+use Rattle.std.proofs.Common.{List, ℕ, ◌<◌, ◌≡◌, ◌∙◌, ◌++◌, ap, drop, length, map, subst, sym, take}
 use Rattle.std.specs.List.{flat_map}
 use Rattle.std.proofs.Math.Seq.{take-append_seam}
 use Rattle.std.proofs.lemmas.List.{length-map}
+use Rattle.std.proofs.lemmas.Option.{slice_get_within}
 use Rattle.cl_explore.specs.Ends.{findings}
 use Rattle.rvmc_starts.specs.declared.starts.Start.{Start}
 use Rattle.rvmc_explore.specs.Splitting.{AreStartsAt, split_sum, start_line, with_split}
@@ -9,8 +10,14 @@ use Rattle.rvmc_explore.specs.declared.splitting.Common.{Common}
 use Rattle.rvmc_explore.proofs.EachStart.{are_of, they_reach}
 use Rattle.rvmc_explore.proofs.splitting.split.Goals as goal
 
-pub returns : goal.returns
-returns c =
+pub starts_of-requires : goal.starts_of-requires
+starts_of-requires g c = λ k i there.
+    let explored = c.in_ok-found.ensures.ends.0 in
+    let node = explored.sound k i there in
+    subst (λ n. i < n) explored.are.many (slice_get_within explored.nodes i node.0 node.1)
+
+pub returns-clause-starts : goal.returns-clause-starts
+returns-clause-starts g c =
     let image = c.args.image.now in
     let found = c.in_ok-found.found in
     let explored = c.in_ok-found.ensures.ends.0 in

@@ -10,13 +10,13 @@ use Rattle.rvmc_explore.proofs.Listed.{within}
 use Rattle.rvmc_explore.proofs.starting.explored_from.Goals as goal
 
 pub tell-requires : goal.tell-requires
-tell-requires c =
+tell-requires g c =
     let behind = c.in_ok-found.ensures.ends in
     within c.args.image.now c.args.start.now.harts behind.start (findings c.in_ok-found.found)
     c.parts-parts.ensures.limits behind.explored
 
 pub returns-clause-told : goal.returns-clause-told
-returns-clause-told c =
+returns-clause-told g c =
     let found = c.in_ok-found.found in
     let start = c.args.start.now in
     let behind = c.in_ok-found.ensures.ends in

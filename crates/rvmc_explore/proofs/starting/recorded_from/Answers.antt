@@ -8,13 +8,13 @@ use Rattle.rvmc_explore.proofs.Listed.{within}
 use Rattle.rvmc_explore.proofs.starting.recorded_from.Goals as goal
 
 pub tell-requires : goal.tell-requires
-tell-requires c =
+tell-requires g c =
     let behind = c.in_ok-found.ensures.ends in
     within c.args.image.now c.args.start.now.harts behind.start (findings c.in_ok-found.found)
     c.parts-parts.ensures.limits behind.explored
 
 pub returns-clause-steps : goal.returns-clause-steps
-returns-clause-steps c =
+returns-clause-steps g c =
     records_behind c.args.image.now c.args.start.now c.args.reach.states c.args.reach.turns c.in_ok-found.found
     c.in_ok-told.told.items c.args.number _ c.parts-parts.ensures.limits
     (record {

@@ -8,13 +8,13 @@ use Rattle.rvmc_explore.proofs.Listed.{within}
 use Rattle.rvmc_explore.proofs.telling.explored.Goals as goal
 
 pub tell-requires : goal.tell-requires
-tell-requires c =
+tell-requires g c =
     let image = c.args.image.now in
     within image c.args.asked.now.order.now (first_node image) (findings c.in_ok-found.found) c.parts-parts.ensures.limits
     c.in_ok-found.ensures.ends
 
-pub returns : goal.returns
-returns c =
+pub returns-clause-told : goal.returns-clause-told
+returns-clause-told g c =
     let image = c.args.image.now in
     let order = c.args.asked.now.order.now in
     let found = c.in_ok-found.found in

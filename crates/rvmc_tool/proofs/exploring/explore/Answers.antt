@@ -6,7 +6,7 @@ use Rattle.rvmc_tool.proofs.exploring.explore.Goals as goal
 
 -- an image has a rank, and its plan names a hart
 pub answered-requires-clause-order : goal.answered-requires-clause-order
-answered-requires-clause-order c =
+answered-requires-clause-order g c =
     let image = c.args.image.now in
     let harts = listed c.args.harts.now image.harts in
     let plans_are : c.as_slice.result.now ≡ c.in_ok-plans.plans.items = (cc (c.as_slice.ensures.value)) in

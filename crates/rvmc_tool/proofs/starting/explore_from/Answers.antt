@@ -7,7 +7,7 @@ use Rattle.rvmc_tool.proofs.starting.explore_from.Goals as goal
 
 -- an image has a rank, and its plan names a hart
 pub answered-requires-clause-harts : goal.answered-requires-clause-harts
-answered-requires-clause-harts c =
+answered-requires-clause-harts g c =
     let image = c.args.image.now in
     let order = c.as_slice.result.now in
     let plans = c.in_ok-plans.plans.items in

@@ -4,7 +4,7 @@ use Rattle.rvmc_tool.proofs.starting.record_of_end.Goals as goal
 
 -- the steps of a run are inside the limits, and there are no more than memory holds
 pub new-requires : goal.new-requires
-new-requires c =
+new-requires g c =
     let recorded = rw c.in-Ok-Some.field-0-is at c.in-Ok-Some.ensures.steps in
     record {
       each = ends_behind_fit c.args.image.now c.args.start.now c.args.reach.states c.args.reach.turns c.args.number
@@ -13,7 +13,7 @@ new-requires c =
     }
 
 pub returns-in_ok-new-in-Ok-Some-clause-says : goal.returns-in_ok-new-in-Ok-Some-clause-says
-returns-in_ok-new-in-Ok-Some-clause-says c =
+returns-in_ok-new-in-Ok-Some-clause-says g c =
     let steps = c.in-Ok-Some.steps.items in
     let few : length steps < 2 ^ 64 = search rules in
     let recorded = rw c.in-Ok-Some.field-0-is at c.in-Ok-Some.ensures.steps in
@@ -29,5 +29,5 @@ returns-in_ok-new-in-Ok-Some-clause-says c =
     )
 
 pub returns-in-Err-clause-fault : goal.returns-in-Err-clause-fault
-returns-in-Err-clause-fault c = c.fault_of.ensures c.args.image.now c.args.reach.states c.args.reach.turns
+returns-in-Err-clause-fault g c = c.fault_of.ensures c.args.image.now c.args.reach.states c.args.reach.turns
     (Some c.args.number) c.in-Err.ensures.fault

@@ -7,7 +7,7 @@ use Rattle.rvmc_tool.proofs.starting.split.Goals as goal
 
 -- an image has a rank, and its plan names a hart
 pub split-requires : goal.split-requires
-split-requires c =
+split-requires g c =
     let image = c.args.image.now in
     let order = c.as_slice.result.now in
     let plans = c.in_ok-plans.plans.items in

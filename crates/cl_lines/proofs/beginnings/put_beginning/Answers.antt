@@ -1,7 +1,7 @@
 use Rattle.std.proofs.Common.{◌+◌, ap, arith, length}
 use Rattle.std.proofs.lemmas.List.{length-drop, take_rest}
-use Rattle.rvmc_hints.proofs.HintLines.{beginning_goes_on}
-use Rattle.rvmc_hints.proofs.runs.put_beginning.Goals as goal
+use Rattle.cl_lines.proofs.Pieces.{beginning_goes_on}
+use Rattle.cl_lines.proofs.beginnings.put_beginning.Goals as goal
 
 -- one more piece
 pub loop-turn-preserved : goal.loop-turn-preserved

@@ -1,7 +1,7 @@
 -- So many bytes of the line are written, and nothing else.
 use Rattle.std.proofs.Common.{◌≤◌, length, take}
 use Rattle.std.specs.Io.KnownBytes.{Appends}
-use Rattle.rvmc_hints.proofs.runs.put_beginning.Given as goal
+use Rattle.cl_lines.proofs.beginnings.put_beginning.Given as goal
 
 abbrev pub invariant-loop-turn : goal.invariant-loop-turn
 invariant-loop-turn g l =
