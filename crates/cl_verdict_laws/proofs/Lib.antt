@@ -1,0 +1,5 @@
+pub mod Unpaired
+pub mod Asking
+pub mod Naming
+pub mod Live
+pub mod Verdicts

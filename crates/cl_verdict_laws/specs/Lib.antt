@@ -1,0 +1,4 @@
+pub mod Unpaired
+pub mod Asking
+pub mod Live
+pub mod Verdicts

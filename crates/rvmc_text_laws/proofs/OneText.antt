@@ -1,0 +1,95 @@
+-- A list of ends is one to the letter.
+use Rattle.std.specs.Prelude.{ℕ, ◌≡◌, List, [], slice_get, Some}
+use Rattle.std.proofs.Common.{sym, subst}
+use Rattle.rv_image_types.specs.Image.{IsImage}
+use Rattle.rv_image_types.specs.declared.images.ImageParts.{ImageParts}
+use Rattle.cl_machine.specs.Cluster.{Cluster}
+use Rattle.cl_explore.specs.Ends.{AreAlikeEnds, Explored, Findings}
+use Rattle.cl_moves.specs.Standing.{first_node}
+use Rattle.cl_order_laws.specs.Closed.{Node}
+use Rattle.cl_replay.specs.declared.states.ClusterState.{ClusterState}
+use Rattle.rvmc_explore.specs.Ends.{IsEndText}
+use Rattle.rvmc_explore.specs.OneList.{TellsEnd}
+use Rattle.rvmc_explore.specs.Outcomes.{HasBody, IsEndBody, IsEndOutcome, IsListOf}
+use Rattle.rvmc_explore.specs.declared.outcomes.Outcome.{Outcome}
+use Rattle.rvmc_explore.proofs.EndTexts.{found_way, stands_kept}
+use Rattle.rvmc_explore.proofs.OneList.{one_list_law}
+use Rattle.rvmc_text_laws.specs.Laws.{AreAlikeStates, IsReachedState}
+use Rattle.rvmc_text_laws.specs.OneText.{IsEndAt, OneTextLaw}
+use Rattle.rvmc_text_laws.proofs.EndTexts.{end_text_law}
+
+-- the text of an end with this cluster
+record ToldAt (order : List ℕ) (image : ImageParts) (cluster : Cluster) (body : List ℕ) : Type 0 where
+  state : ClusterState
+  is : IsReachedState image state cluster
+  told : IsEndText order image state [] body
+
+-- alike ends are told by one text
+same_text : (order : List ℕ) (image : ImageParts) (a b : Cluster) (x y : List ℕ) → IsImage image → AreAlikeEnds a b
+    → ToldAt order image a x → ToldAt order image b y
+    → x ≡ y
+same_text order image a b x y right alike one other =
+    end_text_law order image one.state other.state x y right
+    (record { one = a; other = b; wild = alike.0; first = one.is; second = other.is; alike = alike.1 }) one.told other.told
+
+module _ (image : ImageParts) (order : List ℕ) (found : Findings) (explored : Explored image order found) where
+  told_at : (i : ℕ) (node : Node) (body : List ℕ) → slice_get explored.nodes i ≡ Some node
+      → IsEndBody order image found.kept i body
+      → ToldAt order image node.cluster body
+  told_at i node body there end =
+      let kept = end.is in
+      let way = found_way image order (first_node image) found explored i node there in
+      record {
+        state = end.state;
+        is = record {
+          reached = (way.0, (way.1).run);
+          stands = stands_kept image order (first_node image) found explored i kept.what node end.state kept.there there
+              kept.same;
+        };
+        told = end.told;
+      }
+
+module _ (image : ImageParts) (order : List ℕ) (states turns : ℕ) (told : List Outcome)
+    (listed : IsListOf image order states turns told) (right : IsImage image) where
+  abbrev explored : Explored image order listed.found
+  explored = (listed.searched).explored
+
+  -- the text by which an end is told, at its node
+  tells_at : (end : Cluster) (tells : TellsEnd image order states turns told listed end)
+      → ToldAt order image (tells.node).cluster tells.body
+  tells_at end tells = told_at image order listed.found explored tells.number tells.node tells.body tells.there tells.is
+
+  at_number : (k : ℕ) (end : Cluster) → (is : IsEndAt image order states turns told listed k end)
+      → ToldAt order image end (is.outcome).body.items
+  at_number k end is =
+      subst (λ c. ToldAt order image c (is.outcome).body.items) is.cluster_is
+      (told_at image order listed.found explored (is.outcome).node is.node (is.outcome).body.items is.at (is.is).1)
+
+  -- the text of an end of whatever list is in this one, where no state is left
+  text_there : (listed.found).left ≡ 0 → (more longer : ℕ) (others : List Outcome)
+      (one : IsListOf image order more longer others) (outcome : Outcome) → IsEndOutcome order image one.found outcome
+      → HasBody told outcome.body.items
+  text_there whole more longer others one outcome is =
+      let its = (one.searched).explored in
+      let end = its.sound (is.0).0 outcome.node (is.0).1 in
+      let tells = (one_list_law.ends) image order more longer states turns others told one listed whole (is.0).0 outcome.node
+      end.0 (is.0).1 end.1 in
+      let at = told_at image order one.found its outcome.node end.0 outcome.body.items end.1 is.1 in
+      subst (HasBody told)
+      (sym (same_text order image (end.0).cluster (tells.node).cluster outcome.body.items tells.body right tells.alike at
+      (tells_at (end.0).cluster tells))) tells.told_is
+
+pub one_text_law : OneTextLaw
+one_text_law = record {
+  exactly = λ image order states turns told listed right end reached tells state text stands is.
+      sym (same_text order image end (tells.node).cluster text tells.body right tells.alike
+      (record { state = state; is = record { reached = reached; stands = stands }; told = is })
+      (tells_at image order states turns told listed right end tells));
+  apart = λ image order states turns told listed right k j one other first second alike.
+      ((listed.are).apart) k j first.outcome second.outcome first.there second.there
+      (same_text order image one other (first.outcome).body.items (second.outcome).body.items right alike
+      (at_number image order states turns told listed right k one first)
+      (at_number image order states turns told listed right j other second));
+  texts = λ image order states turns more longer told other one two whole right k outcome at is.
+      text_there image order more longer other two right whole states turns told one outcome is;
+}

@@ -1,0 +1,53 @@
+-- That a list of ends is one to the letter.
+use Rattle.std.specs.Prelude.{ℕ, ◌≡◌, List, [], slice_get, Some}
+use Rattle.rv_image_types.specs.Image.{IsImage}
+use Rattle.rv_image_types.specs.declared.images.ImageParts.{ImageParts}
+use Rattle.cl_deadlock_laws.specs.Stuck.{IsReachable}
+use Rattle.cl_explore.specs.Ends.{AreAlikeEnds}
+use Rattle.cl_machine.specs.Cluster.{Cluster}
+use Rattle.cl_order_laws.specs.Closed.{Node}
+use Rattle.cl_replay.specs.States.{ClusterStandsFor}
+use Rattle.cl_replay.specs.declared.states.ClusterState.{ClusterState}
+use Rattle.rvmc_explore.specs.Ends.{IsEndText}
+use Rattle.rvmc_explore.specs.OneList.{TellsEnd}
+use Rattle.rvmc_explore.specs.Outcomes.{HasBody, IsEndOutcome, IsListOf}
+use Rattle.rvmc_explore.specs.declared.outcomes.Outcome.{Outcome}
+use Rattle.rvmc_text_laws.specs.Laws.{AreAlikeStates}
+
+-- what `explore` tells of alike ends is one text
+abbrev pub EndTextLaw : Type 0
+EndTextLaw =
+    (order : List ℕ) (image : ImageParts) (a b : ClusterState) (x y : List ℕ) → IsImage image → AreAlikeStates image a b
+    → IsEndText order image a [] x → IsEndText order image b [] y
+    → x ≡ y
+
+-- the outcome of this number in the list is an end, with this cluster
+pub record IsEndAt (image : ImageParts) (order : List ℕ) (states turns : ℕ) (told : List Outcome)
+    (listed : IsListOf image order states turns told) (k : ℕ) (end : Cluster) : Type 0 where
+  pub outcome : Outcome
+  pub there : slice_get told k ≡ Some outcome
+  pub is : IsEndOutcome order image listed.found outcome
+  pub node : Node
+  pub at : slice_get (((listed.searched).explored).nodes) outcome.node ≡ Some node
+  pub cluster_is : node.cluster ≡ end
+
+-- of lists of one image and one order, whatever their bounds. `one_list_law` has which ends they tell
+pub record OneTextLaw : Type 0 where
+  -- the text by which a list tells the end of a run is that of this end, in full
+  pub exactly : (image : ImageParts) (order : List ℕ) (states turns : ℕ) (told : List Outcome)
+      → (listed : IsListOf image order states turns told) → IsImage image
+      → (end : Cluster) → IsReachable image end → (tells : TellsEnd image order states turns told listed end)
+      → (state : ClusterState) (text : List ℕ) → ClusterStandsFor image state end → IsEndText order image state [] text
+      → tells.body ≡ text
+  -- no two ends of a list are alike
+  pub apart : (image : ImageParts) (order : List ℕ) (states turns : ℕ) (told : List Outcome)
+      → (listed : IsListOf image order states turns told) → IsImage image
+      → (k j : ℕ) (one other : Cluster) → IsEndAt image order states turns told listed k one
+      → IsEndAt image order states turns told listed j other → AreAlikeEnds one other
+      → k ≡ j
+  -- each text of an end in one list is in each other one of a search that left no state
+  pub texts : (image : ImageParts) (order : List ℕ) (states turns more longer : ℕ) (told other : List Outcome)
+      → (one : IsListOf image order states turns told) → (two : IsListOf image order more longer other)
+      → (two.found).left ≡ 0 → IsImage image
+      → (k : ℕ) (outcome : Outcome) → slice_get told k ≡ Some outcome → IsEndOutcome order image one.found outcome
+      → HasBody other outcome.body.items
