@@ -3,18 +3,18 @@
 ghost use Rattle.rvmc_text_laws.specs.Laws.{WhyLaw};
 ghost use Rattle.rvmc_text_laws.specs.OneText.{EndTextLaw, OneTextLaw};
 
-/// States of alike clusters that were reached from one image have one text of `why`.
+/// `why` prints the same text for alike clusters to which runs of one image lead.
 pub fn why_law()
     ensures { WhyLaw }
 {}
 
-/// And one text as an end.
+/// `explore` prints the same text for alike ends.
 pub fn end_text_law()
     ensures { EndTextLaw }
 {}
 
-/// So a list tells each end by its text, and no two ends of it are alike; and if no state is left, each list has the text of
-/// each end.
+/// A list has the text of each of its ends in full, and no two of them are alike. If a search left no state, its list has
+/// the text of each end that any search finds.
 pub fn one_text_law()
     ensures { OneTextLaw }
 {}

@@ -1,5 +1,5 @@
-//! The text of an end is that of each alike one: what harts wait for, which messages weren't received, and the ranks of the
-//! deadlock. So a list of ends is one to the letter.
+//! Alike ends have one text: what harts wait for, which messages weren't received, and the ranks of the deadlock. So two
+//! complete searches list the same texts.
 #![tactic(auto)]
 
 pub mod laws;
