@@ -27,12 +27,12 @@ use Rattle.cl_order_laws.proofs.Likeness.{each_from}
 use Rattle.cl_order_laws.proofs.Ranks.{asked_alike, harts_alike}
 use Rattle.cl_reduction_laws.proofs.Below.{source_law}
 use Rattle.cl_reduction_laws.specs.Below.{AreAlike, AskOfLive}
-use Rattle.cl_verdict_laws.specs.Live.{AsksOfLive}
+use Rattle.cl_verdict_laws.specs.Live.{AllAskOfLive}
 use Rattle.cl_verdict_laws.specs.Verdicts.{VerdictLaw}
 use Rattle.cl_verdict_laws.proofs.Asking.{asking_law}
 use Rattle.cl_verdict_laws.proofs.Live.{live_law}
 
-module _ (ranks : List ℕ) (wild : Wild) (a b : Cluster) (alike : AreAlike wild a b) (live : AsksOfLive a) where
+module _ (ranks : List ℕ) (wild : Wild) (a b : Cluster) (alike : AreAlike wild a b) (live : AllAskOfLive a) where
   abbrev names : Renaming
   names = alike.0
 
@@ -100,7 +100,7 @@ module _ (ranks : List ℕ) (wild : Wild) (a b : Cluster) (alike : AreAlike wild
 
 -- ---- the verdict
 
-module _ (wild : Wild) (a b : Cluster) (alike : AreAlike wild a b) (live : AsksOfLive a) (also : AsksOfLive b) where
+module _ (wild : Wild) (a b : Cluster) (alike : AreAlike wild a b) (live : AllAskOfLive a) (also : AllAskOfLive b) where
   abbrev back : AreAlike wild b a
   back = (source_law.back) wild a b alike
 

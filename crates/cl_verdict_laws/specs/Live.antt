@@ -10,10 +10,10 @@ use Rattle.cl_reduction_laws.specs.Below.{AskOfLive}
 
 -- whether a send is complete a rank asks only of sends that aren't over: it forgets the number of a standard send, of which
 -- it is told at once that it is complete
-abbrev pub AsksOfLive : Cluster → Type 0
-AsksOfLive c =
+abbrev pub AllAskOfLive : Cluster → Type 0
+AllAskOfLive c =
     (r : ℕ) (rank : Rank) (hart : ℕ) → slice_get c.ranks r ≡ Some rank → AskOfLive c (asked rank hart)
 
 -- so it is wherever a run leads, of however many harts, and with claims and partitions
 abbrev pub LiveLaw : Type 0
-LiveLaw = (image : ImageParts) (c : Cluster) → IsReachable image c → AsksOfLive c
+LiveLaw = (image : ImageParts) (c : Cluster) → IsReachable image c → AllAskOfLive c
