@@ -1,7 +1,8 @@
-/* Preloaded into a program, refuses it one thing: the k-th request for memory, or the k-th read or write, which fails,
-   or moves one byte alone. What, and which, is told by the environment:
+/* Preloaded into a program, refuses it one thing: the k-th request for memory, or some in a row, or the k-th read or
+   write, which fails, or moves one byte alone. What, and which, is told by the environment:
 
    REFUSE_MEMORY            the number of the request for memory, from 1
+   REFUSE_IN_A_ROW          how many requests are refused from that one on; without it that one alone
    FAIL_READ, FAIL_WRITE    the number of the read of standard input, and of the write to standard output or error
    SHORT_READ, SHORT_WRITE  the same, of one that moves a byte
    ENDLESS_READ             a number of reads: each read of standard input gives one byte 0, for ever
@@ -20,7 +21,7 @@ extern void *__libc_calloc(size_t, size_t);
 extern void *__libc_realloc(void *, size_t);
 extern void *__libc_memalign(size_t, size_t);
 
-static long memory, told = -1, endless, fail_read, fail_write, short_read, short_write;
+static long memory, in_a_row, told = -1, endless, fail_read, fail_write, short_read, short_write;
 static long requests, reads, writes;
 static ssize_t (*real_read)(int, void *, size_t);
 static ssize_t (*real_write)(int, const void *, size_t);
@@ -41,6 +42,7 @@ __attribute__((constructor)) static void begin(void)
     fail_write = number("FAIL_WRITE");
     short_read = number("SHORT_READ");
     short_write = number("SHORT_WRITE");
+    in_a_row = getenv("REFUSE_IN_A_ROW") ? number("REFUSE_IN_A_ROW") : 1;
     memory = number("REFUSE_MEMORY");
 }
 
@@ -50,10 +52,13 @@ static void tell(char letter)
         real_write((int)told, &letter, 1);
 }
 
-/* whether this request is the one that is refused */
+/* whether this request is one that is refused */
 static int is_refused(void)
 {
-    if (!memory || __atomic_add_fetch(&requests, 1, __ATOMIC_SEQ_CST) != memory)
+    if (!memory)
+        return 0;
+    long past = __atomic_add_fetch(&requests, 1, __ATOMIC_SEQ_CST) - memory;
+    if (past < 0 || past >= in_a_row)
         return 0;
     tell('m');
     errno = ENOMEM;
