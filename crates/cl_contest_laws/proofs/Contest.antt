@@ -1,9 +1,9 @@
 -- What a closed list tells of a run.
-use Rattle.std.proofs.Common.{◌≡◌, ℕ, refl, sym, subst, List, map, Some}
-use Rattle.std.specs.List.{slice_get}
+use Rattle.std.proofs.Common.{ℕ, refl, sym, subst, List, map}
 use Rattle.cl_machine.specs.declared.steps.Step.{Step}
 use Rattle.cl_machine.specs.Cluster.{Cluster, IsRun}
 use Rattle.cl_order_laws.specs.Closed.{FollowPlans, IsEnd, Node, Plans, had_after}
+use Rattle.cl_order_laws.specs.Sure.{GoesOn}
 use Rattle.cl_order_laws.proofs.Covered.{node_of}
 use Rattle.cl_order_laws.proofs.Walks.{walk_of}
 use Rattle.cl_outcome_laws.specs.Companies.{IsCompany}
@@ -13,12 +13,12 @@ use Rattle.cl_schedule_laws.specs.Laws.{IsFound}
 use Rattle.cl_reduction_laws.specs.Clusters.{Search, State, cluster_machine}
 use Rattle.cl_reduction_laws.specs.Settled.{AllWithin, IsSettled}
 use Rattle.cl_reduction_laws.proofs.Clusters.{cluster_machine_law}
-use Rattle.cl_contest_laws.specs.Laws.{ContestLaw}
+use Rattle.cl_contest_laws.specs.Laws.{ContestLaw, HasAlikeEnd}
 use Rattle.cl_contest_laws.specs.Lists.{IsClosedByContest, IsOneOf, StartsWell}
 use Rattle.cl_contest_laws.proofs.Companies.{company_still, company_too, home_of, still_walk}
 use Rattle.cl_contest_laws.proofs.Ends.{alike_asleep, rest_too}
 use Rattle.cl_contest_laws.proofs.Kept.{AreClosed, kept}
-use Rattle.cl_contest_laws.proofs.Lists.{all_rest, comes, is_end, list_closed, one_each, planned_of}
+use Rattle.cl_contest_laws.proofs.Lists.{HasOneEach, all_rest, comes, is_end, list_closed, one_walk, planned_of}
 use Rattle.cl_contest_laws.proofs.Rest.{Alike, AllRest, alike_back, alike_on, rest_walk}
 use Rattle.cl_contest_laws.proofs.Walks.{IsPlanned, Walked, arrives, walked}
 
@@ -32,82 +32,96 @@ module _ (search : Search) (Is : Cluster → Type 0) (a : State search)
       (rest_walk search a f.within rest f.more a f.there ((cluster_machine_law search).itself a) f.walk f.inside))
       f.alike
 
--- ---- a run from where a search began
+-- ---- turns from where a search began
 
 module _ (search : Search) (plans : Plans) (nodes : List Node) (start : Node) (well : StartsWell search plans start.cluster)
-    (settled : IsSettled search (IsOneOf nodes) start.cluster) (closed : IsClosedByContest search plans nodes)
-    (steps : List Step) (end : Cluster) (run : IsRun start.cluster steps end) (follow : FollowPlans plans start.had steps) where
-  abbrev pub planned : IsPlanned search plans
+    (settled : IsSettled search (IsOneOf nodes) start.cluster) (closed : IsClosedByContest search plans nodes) where
+  abbrev planned : IsPlanned search plans
   planned = planned_of search plans start.cluster well.single
 
-  abbrev pub are_closed : AreClosed search (IsOneOf nodes)
+  abbrev are_closed : AreClosed search (IsOneOf nodes)
   are_closed = list_closed search plans planned nodes closed
 
-  abbrev pub first : State search
+  abbrev first : State search
   first = record { cluster = start.cluster; good = well.good }
 
-  abbrev pub ranks_of : List ℕ
-  ranks_of = map (λ (e : Step). e.rank) steps
+  module _ (ranks_of : List ℕ) (last : Node) (walk : GoesOn plans ranks_of start last) where
+    pub came : Walked search plans planned ranks_of first last.cluster
+    came = walked search plans planned (IsOneOf nodes) are_closed settled.0 first settled.1 ranks_of start last refl walk
 
-  pub came : Walked search plans planned ranks_of first end
-  came =
-      walked search plans planned (IsOneOf nodes) are_closed settled.0 first settled.1 ranks_of start
-      (node_of end (had_after start.had steps)) refl (walk_of plans steps start.cluster end start.had run follow)
+    pub finds : IsFound (cluster_machine search) (kept search (IsOneOf nodes)) came.last
+    finds = arrives search plans planned (IsOneOf nodes) are_closed settled.0 first settled.1 ranks_of last.cluster came
 
-  pub finds : IsFound (cluster_machine search) (kept search (IsOneOf nodes)) came.last
-  finds = arrives search plans planned (IsOneOf nodes) are_closed settled.0 first settled.1 ranks_of end came
+    within_walk : AllWithin search last.cluster
+    within_walk = subst (AllWithin search) came.is finds.within
 
-  run_there : IsRun start.cluster steps came.last.cluster
-  run_there = subst (IsRun start.cluster steps) (sym came.is) run
+    one : HasOneEach came.last.cluster
+    one = subst HasOneEach (sym came.is) (one_walk plans ranks_of start last walk (well.single).one)
 
-  pub within : AllWithin search end
-  within = subst (AllWithin search) came.is finds.within
+    -- ---- an end
 
-  -- ---- an end
+    end_of : IsEnd plans last.cluster → HasAlikeEnd search plans nodes last.cluster
+    end_of is =
+        let a = came.last in
+        let node = finds.node in
+        let at : IsOneOf nodes node.cluster = finds.is in
+        let rest = all_rest search plans planned a.cluster (subst (IsEnd plans) (sym came.is) is) in
+        let alike = node_alike search (IsOneOf nodes) a finds rest in
+        let fit = are_closed.fit node.cluster at in
+        let rests = rest_too search (well.single).harts a node alike fit rest in
+        let same = alike_asleep search (well.single).harts a node alike fit rest one in (
+          at.0,
+          at.1,
+          at.2,
+          subst (IsEnd plans) (sym at.3) (is_end search plans planned node.cluster rests),
+          subst (λ c. AreAlike search.wild last.cluster c) (sym at.3)
+              (subst (λ c. AreAlike search.wild c node.cluster) came.is same),
+        )
 
-  abbrev pub HasEnd : Type 0
-  HasEnd = (i : ℕ) × (node : Node) × (slice_get nodes i ≡ Some node) × IsEnd plans node.cluster
-      × AreAlike search.wild end node.cluster
+  -- ---- a run
 
-  pub ends : IsEnd plans end → HasEnd
-  ends is =
-      let a = came.last in
-      let node = finds.node in
-      let at : IsOneOf nodes node.cluster = finds.is in
-      let rest = all_rest search plans planned a.cluster (subst (IsEnd plans) (sym came.is) is) in
-      let alike = node_alike search (IsOneOf nodes) a finds rest in
-      let fit = are_closed.fit node.cluster at in
-      let one = one_each start.cluster a.cluster steps well.reached run_there (well.single).one in
-      let rests = rest_too search (well.single).harts a node alike fit rest in
-      let same = alike_asleep search (well.single).harts a node alike fit rest one in (
-        at.0,
-        at.1,
-        at.2,
-        subst (IsEnd plans) (sym at.3) (is_end search plans planned node.cluster rests),
-        subst (λ c. AreAlike search.wild end c) (sym at.3) (subst (λ c. AreAlike search.wild c node.cluster) came.is same),
-      )
+  module _ (steps : List Step) (end : Cluster) (run : IsRun start.cluster steps end)
+      (follow : FollowPlans plans start.had steps) where
+    abbrev steps_ranks : List ℕ
+    steps_ranks = map (λ (e : Step). e.rank) steps
 
-  -- ---- a company
+    abbrev end_node : Node
+    end_node = node_of end (had_after start.had steps)
 
-  pub companies : (ranks : List ℕ) → IsCompany ranks end → HasCompany ranks nodes
-  companies ranks company =
-      let a = came.last in
-      let f = finds in
-      let at : IsOneOf nodes f.node.cluster = f.is in
-      let image = (well.reached).0 in
-      let home = home_of image a.cluster (comes start.cluster a.cluster steps well.reached run_there)
-      (one_each start.cluster a.cluster steps well.reached run_there (well.single).one) in
-      let still = still_walk search image ranks f.more a f.there f.walk f.inside
-      (company_still search image ranks (well.single).harts a.cluster f.within home
-      (subst (IsCompany ranks) (sym came.is) company)) in
-      let there = company_too search image ranks (well.single).harts f.there f.node f.alike
-      (are_closed.fit f.node.cluster at) still in
-      (at.0, at.1, at.2, subst (IsCompany ranks) (sym at.3) there)
+    abbrev walk_there : GoesOn plans steps_ranks start end_node
+    walk_there = walk_of plans steps start.cluster end start.had run follow
+
+    ends : IsEnd plans end → HasAlikeEnd search plans nodes end
+    ends is = end_of steps_ranks end_node walk_there is
+
+    within : AllWithin search end
+    within = within_walk steps_ranks end_node walk_there
+
+    -- ---- a company
+
+    companies : (ranks : List ℕ) → IsCompany ranks end → HasCompany ranks nodes
+    companies ranks company =
+        let c = came steps_ranks end_node walk_there in
+        let a = c.last in
+        let f = finds steps_ranks end_node walk_there in
+        let at : IsOneOf nodes f.node.cluster = f.is in
+        let image = (well.reached).0 in
+        let run_there = subst (IsRun start.cluster steps) (sym c.is) run in
+        let home = home_of image a.cluster (comes start.cluster a.cluster steps well.reached run_there)
+        (one steps_ranks end_node walk_there) in
+        let still = still_walk search image ranks f.more a f.there f.walk f.inside
+        (company_still search image ranks (well.single).harts a.cluster f.within home
+        (subst (IsCompany ranks) (sym c.is) company)) in
+        let there = company_too search image ranks (well.single).harts f.there f.node f.alike
+        (are_closed.fit f.node.cluster at) still in
+        (at.0, at.1, at.2, subst (IsCompany ranks) (sym at.3) there)
 
 pub contest_law : ContestLaw
 contest_law = record {
   ends = λ search plans nodes start well settled closed steps end run follow is.
       ends search plans nodes start well settled closed steps end run follow is;
+  walks = λ search plans nodes start well settled closed ranks last walk is.
+      end_of search plans nodes start well settled closed ranks last walk is;
   companies = λ search plans nodes start well settled closed steps end run follow ranks company.
       companies search plans nodes start well settled closed steps end run follow ranks company;
   within = λ search plans nodes start well settled closed steps end run follow.

@@ -1,18 +1,23 @@
 -- Lists of nodes whose clusters are closed.
 use Rattle.std.proofs.Common.{◌≡◌, ◌∙◌, ℕ, zero, suc, sym, ap, subst, ◌⊎◌, inl, inr, List, [], ◌∷◌, ◌++◌, length, Bool, Some}
 use Rattle.std.specs.Prelude.{IsTrue}
-use Rattle.std.specs.List.{slice_get}
+use Rattle.std.specs.List.{slice_get, slice_set}
+use Rattle.std.proofs.lemmas.Bool.{cases_eq}
+use Rattle.mp_wait_laws.proofs.Sets.{get-set_other}
 use Rattle.cl_state.specs.Rank.{Rank}
+use Rattle.cl_state.specs.Told.{told}
+use Rattle.cl_state.proofs.Moves.{told_at}
 use Rattle.cl_state_laws.specs.Vain.{IsStopped, mode_of}
 use Rattle.cl_machine.specs.declared.steps.Step.{Step}
 use Rattle.cl_machine.specs.Cluster.{Cluster, IsRun, loaded_cluster}
-use Rattle.cl_deadlock_laws.proofs.Reached.{Comes, comes_reached, same_harts}
+use Rattle.cl_deadlock_laws.proofs.Reached.{Comes, comes_reached}
 use Rattle.cl_order_laws.specs.Closed.{IsDone, IsEnd, Node, Plans, WaitsInVain}
 use Rattle.cl_order_laws.specs.Laws.{IsReached}
-use Rattle.cl_order_laws.specs.Sure.{WhereverLeads}
+use Rattle.cl_order_laws.specs.Sure.{Goes, GoesOn, WhereverLeads}
 use Rattle.cl_order_laws.proofs.Covered.{only_one}
-use Rattle.cl_order_laws.proofs.Likeness.{within_list}
+use Rattle.cl_order_laws.proofs.Each.{was_there}
 use Rattle.cl_outcome_laws.specs.Graphs.{Edges}
+use Rattle.cl_outcome_laws.proofs.CatchUp.{told_so}
 use Rattle.cl_reduction_laws.specs.Clusters.{Search}
 use Rattle.cl_reduction_laws.specs.Settled.{IsFit, IsSettled, IsSingle, Settles}
 use Rattle.cl_contest_laws.specs.Lists.{HasEdge, IsClosedByContest, IsContestGraph, IsOneOf}
@@ -143,19 +148,34 @@ runs_on (e ∷ es) fs a b c first second = (first.0, first.1, runs_on es fs firs
 abbrev pub HasOneEach : Cluster → Type 0
 HasOneEach c = (r : ℕ) (rank : Rank) → slice_get c.ranks r ≡ Some rank → length rank.harts ≡ 1
 
+module _ (plans : Plans) where
+  one_turn : (r : ℕ) (here new : Node) → Goes plans r here new → HasOneEach here.cluster → HasOneEach new.cluster
+  one_turn r here new goes one = λ s z is.
+      let e = goes.step in
+      let y = goes.leads in
+      let t = told_so plans here.cluster new.cluster e y.0 e.kind y.3 in
+      let now = told y.0 e.hart t.0 e.stamp in
+      let there : slice_get (slice_set here.cluster.ranks e.rank now) s ≡ Some z =
+      subst (λ xs. slice_get xs s ≡ Some z) t.1 is in
+      elim (cases_eq e.rank s) [
+        | inl same ↦
+            let w = was_there here.cluster.ranks e.rank now z
+            (subst (λ k. slice_get (slice_set here.cluster.ranks e.rank now) k ≡ Some z) (sym same) there) in
+            sym (ap (λ (q : Rank). length q.harts) w.0)
+            ∙ ((told_at y.0 e.hart t.0 e.stamp).harts
+            ∙ one s y.0 (subst (λ k. slice_get here.cluster.ranks k ≡ Some y.0) same y.1))
+        | inr apart ↦ one s z (sym (get-set_other here.cluster.ranks e.rank s now apart) ∙ there)
+      ]
+
+  -- where each rank had one hart it has one, wherever turns lead
+  pub one_walk : (rs : List ℕ) (here last : Node) → GoesOn plans rs here last → HasOneEach here.cluster
+      → HasOneEach last.cluster
+  one_walk [] here last walk one = subst (λ (n : Node). HasOneEach n.cluster) (sym walk) one
+  one_walk (r ∷ rs) here last walk one = one_walk rs walk.0 last walk.2 (one_turn r here walk.0 walk.1 one)
+
 module _ (start end : Cluster) (steps : List Step) (reached : IsReached start) (run : IsRun start steps end) where
   -- where it leads was reached from the same image
   pub comes : Comes reached.0 end
   comes =
       comes_reached reached.0 (reached.1 ++ steps) end
       (runs_on reached.1 steps (loaded_cluster reached.0) start end reached.2 run)
-
-  -- and where each rank had one hart it has one
-  pub one_each : HasOneEach start → HasOneEach end
-  one_each one r x there =
-      let image = reached.0 in
-      let was = comes_reached image reached.1 start reached.2 in
-      let y = within_list end.ranks start.ranks (was.count ∙ sym comes.count) r x there in
-      let u = was.alone r y.0 y.1 in
-      let v = comes.alone r x there in
-      same_harts image r v.0 x v.1 ∙ sym (same_harts image r u.0 y.0 u.1) ∙ one r y.0 y.1

@@ -1,5 +1,5 @@
 -- Where runs can still end, and where none does.
-use Rattle.std.proofs.Common.{◌≡◌, ℕ, refl, sym, subst, List, ◌++◌, Bool, Some}
+use Rattle.std.proofs.Common.{◌≡◌, ℕ, refl, sym, subst, List, ◌++◌, map, Bool, Some}
 use Rattle.std.specs.Prelude.{IsTrue}
 use Rattle.std.specs.List.{slice_get}
 use Rattle.cl_machine.specs.declared.steps.Step.{Step}
@@ -7,12 +7,13 @@ use Rattle.cl_machine.specs.Cluster.{Cluster, IsRun}
 use Rattle.cl_order_laws.specs.Closed.{FollowPlans, IsEnd, Node, Plans, Turns, had_after}
 use Rattle.cl_order_laws.specs.Sure.{GoesOn as GoesOnBy}
 use Rattle.cl_order_laws.proofs.Covered.{node_of}
+use Rattle.cl_order_laws.proofs.Walks.{walk_of}
 use Rattle.cl_outcome_laws.specs.Graphs.{Edges, IsTrap}
 use Rattle.cl_outcome_laws.specs.Unending.{MayEnd, NeverEnds}
 use Rattle.cl_outcome_laws.proofs.Paths.{may_after}
 use Rattle.cl_schedule_laws.proofs.Walks.{along}
 use Rattle.cl_reduction_laws.specs.Below.{AreAlike}
-use Rattle.cl_reduction_laws.specs.Clusters.{Search, State, cluster_machine}
+use Rattle.cl_reduction_laws.specs.Clusters.{IsGood, Search, State, cluster_machine}
 use Rattle.cl_reduction_laws.specs.Settled.{IsSettled, Settles}
 use Rattle.cl_reduction_laws.proofs.Awake.{clusters_awake}
 use Rattle.cl_reduction_laws.proofs.Clusters.{cluster_machine_law}
@@ -46,8 +47,7 @@ starts_at plans rs had c d last same walk = subst (λ k. GoesOnBy plans rs (node
 -- ---- a run from where a search began
 
 module _ (search : Search) (plans : Plans) (nodes : List Node) (edges : Edges) (start : Node)
-    (well : StartsWell search plans start.cluster) (settled : IsSettled search (IsOneOf nodes) start.cluster)
-    (graph : IsContestGraph search plans nodes edges) where
+    (well : StartsWell search plans start.cluster) (graph : IsContestGraph search plans nodes edges) where
   abbrev planned : IsPlanned search plans
   planned = planned_of search plans start.cluster well.single
 
@@ -57,8 +57,7 @@ module _ (search : Search) (plans : Plans) (nodes : List Node) (edges : Edges) (
   -- ---- from inside a trap
 
   module _ (inside : ℕ → Bool) (trap : IsTrap plans nodes edges inside) (i : ℕ) (node : Node) (is : IsTrue (inside i))
-      (there : slice_get nodes i ≡ Some node) (steps : List Step) (run : IsRun start.cluster steps node.cluster)
-      (follow : FollowPlans plans start.had steps) where
+      (there : slice_get nodes i ≡ Some node) (good : IsGood search node.cluster) where
     abbrev Is : Cluster → Type 0
     Is = IsInside search plans planned nodes edges graph inside trap.stays
 
@@ -67,11 +66,10 @@ module _ (search : Search) (plans : Plans) (nodes : List Node) (edges : Edges) (
 
     never : NeverEnds plans node
     never last after end =
-        let c = came search plans nodes start well settled closed steps node.cluster run follow in
-        let at : Is c.last.cluster = (i, node, there, sym c.is, is) in
-        let settles = node_settles search Is all c.last at in
-        let w = walked search plans planned Is all 0 c.last settles after.0 node last c.is after.1 in
-        let f = arrives search plans planned Is all 0 c.last settles after.0 last.cluster w in
+        let here : State search = record { cluster = node.cluster; good = good } in
+        let settles = node_settles search Is all here (i, node, there, refl, is) in
+        let w = walked search plans planned Is all 0 here settles after.0 node last refl after.1 in
+        let f = arrives search plans planned Is all 0 here settles after.0 last.cluster w in
         let rest = all_rest search plans planned w.last.cluster (end_at plans w.last.cluster last.cluster w.is end) in
         let k = node_alike search Is w.last f rest in
         let to : Is f.node.cluster = f.is in
@@ -107,14 +105,13 @@ module _ (search : Search) (plans : Plans) (nodes : List Node) (edges : Edges) (
 
   -- along an edge
   module _ (i j : ℕ) (from to : Node) (edge : IsTrue (edges i j)) (here : slice_get nodes i ≡ Some from)
-      (there : slice_get nodes j ≡ Some to) (steps : List Step) (run : IsRun start.cluster steps from.cluster)
-      (follow : FollowPlans plans start.had steps) where
+      (there : slice_get nodes j ≡ Some to) (good : IsGood search from.cluster) where
     path : MayEnd plans to → MayEnd plans from
     path ends =
-        let c = came search plans nodes start well settled closed steps from.cluster run follow in
+        let first : State search = record { cluster = from.cluster; good = good } in
         let l = graph.leads i j from to edge here there in
-        let settles = node_settles search (IsOneOf nodes) every c.last (i, from, here, sym c.is) in
-        let w = walked search plans planned (IsOneOf nodes) every 0 c.last settles (l.1).0 from l.0 c.is (l.1).1 in
+        let settles = node_settles search (IsOneOf nodes) every first (i, from, here, refl) in
+        let w = walked search plans planned (IsOneOf nodes) every 0 first settles (l.1).0 from l.0 refl (l.1).1 in
         let alike = clusters_awake search.wild w.last.cluster to.cluster
         (subst (λ k. AreAlike search.wild k to.cluster) (sym w.is) l.2) in
         let node : State search =
@@ -125,16 +122,18 @@ module _ (search : Search) (plans : Plans) (nodes : List Node) (edges : Edges) (
         may_after plans from l.0 l.1 (may_too node (j, to, there, refl) ends w.last alike l.0 (sym w.is))
 
   -- wherever a run leads
-  module _ (each : (i : ℕ) (node : Node) → slice_get nodes i ≡ Some node → MayEnd plans node)
-      (steps : List Step) (end : Cluster) (run : IsRun start.cluster steps end)
+  module _ (settled : IsSettled search (IsOneOf nodes) start.cluster)
+      (each : (i : ℕ) (node : Node) → slice_get nodes i ≡ Some node → MayEnd plans node) (steps : List Step) (end : Cluster) (run : IsRun start.cluster steps end)
       (follow : FollowPlans plans start.had steps) where
     abbrev had : Turns
     had = had_after start.had steps
 
     may : MayEnd plans (node_of end had)
     may =
-        let c = came search plans nodes start well settled closed steps end run follow in
-        let f = finds search plans nodes start well settled closed steps end run follow in
+        let ranks = map (λ (e : Step). e.rank) steps in
+        let walk = walk_of plans steps start.cluster end start.had run follow in
+        let c = came search plans nodes start well settled closed ranks (node_of end had) walk in
+        let f = finds search plans nodes start well settled closed ranks (node_of end had) walk in
         let at : IsOneOf nodes f.node.cluster = f.is in
         let g = by_plans search plans planned f.more c.last f.there had f.walk in
         may_after plans (node_of end had) g.0 (f.more, starts_at plans f.more had c.last.cluster end g.0 c.is g.1)
@@ -142,10 +141,10 @@ module _ (search : Search) (plans : Plans) (nodes : List Node) (edges : Edges) (
 
 pub never_ends_law : NeverEndsLaw
 never_ends_law = record {
-  never = λ search plans nodes edges inside start well settled graph trap i node is there steps run follow.
-      never search plans nodes edges start well settled graph inside trap i node is there steps run follow;
-  path = λ search plans nodes edges start well settled graph i j from to edge here there steps run follow.
-      path search plans nodes edges start well settled graph i j from to edge here there steps run follow;
+  never = λ search plans nodes edges inside start well graph trap i node is there good.
+      never search plans nodes edges start well graph inside trap i node is there good;
+  path = λ search plans nodes edges start well graph i j from to edge here there good.
+      path search plans nodes edges start well graph i j from to edge here there good;
   may = λ search plans nodes edges start well settled graph each steps end run follow.
-      may search plans nodes edges start well settled graph each steps end run follow;
+      may search plans nodes edges start well graph settled each steps end run follow;
 }

@@ -6,6 +6,7 @@ use Rattle.rv_image_types.specs.declared.images.ImageParts.{ImageParts}
 use Rattle.mp_types.specs.declared.requests.Request.{Request}
 use Rattle.mp_types.specs.declared.requests.Request.TheVariants as request
 use Rattle.mp_hub.specs.Hub.{HubView}
+use Rattle.mp_clash_laws.specs.Exchanges.{WaitsWithin}
 use Rattle.cl_state.specs.declared.asking.Ask.{Ask}
 use Rattle.cl_state.specs.declared.asking.Doing.{Doing}
 use Rattle.cl_state.specs.declared.state.RankState.{RankState}
@@ -55,7 +56,7 @@ module _ (image : ImageParts) (standing : Standing) (node : Node) (stands : Stan
   abbrev ranks : List RankState
   ranks = standing.cluster.ranks.items
 
-  each_rank : (P : ℕ → Rank → Type 0) → ((r : ℕ) (own : RankState) → slice_get ranks r ≡ Some own → P r (rank_of own))
+  pub each_rank : (P : ℕ → Rank → Type 0) → ((r : ℕ) (own : RankState) → slice_get ranks r ≡ Some own → P r (rank_of own))
       → (r : ℕ) (rank : Rank) → slice_get (node.cluster).ranks r ≡ Some rank → P r rank
   each_rank P each r rank there =
       let mapped : option_map rank_of (slice_get ranks r) ≡ Some rank =
@@ -68,13 +69,15 @@ module _ (image : ImageParts) (standing : Standing) (node : Node) (stands : Stan
       of (Some own) is mapped = subst (P r) (same_Some (rank_of own) rank mapped) (each r own is)
 
   pub all_fit : (kept : List AskedBy) → length (standing.whole).board.lines + 3 < 65536
+      → WaitsWithin (wild_of kept) standing.whole
       → ((r : ℕ) (own : RankState) → slice_get ranks r ≡ Some own
       → IsFitRank (search_of kept) node.cluster r (rank_of own))
       → IsFit (search_of kept) node.cluster
-  all_fit kept room each =
+  all_fit kept room waits each =
       let fits = each_rank (λ r rank. IsFitRank (search_of kept) node.cluster r rank) each in
       record {
         within = λ r rank there. let v = fits r rank there in (v.allowed, v.within);
+        waits = subst (WaitsWithin (wild_of kept)) stands.whole waits;
         room = subst (λ (h : HubView). length (h.board).lines + 3 < 65536) stands.whole room;
         rests = λ r rank there. (fits r rank there).rests;
         stands = λ r rank there. (fits r rank there).stands;

@@ -1,5 +1,6 @@
 pub mod Passing
 pub mod Fits
+pub mod Starting
 pub mod Settling
 pub mod Leading
 pub mod Others

@@ -1,10 +1,12 @@
 -- Where turns lead that are taken first, and which clusters are fit for all ranks to be let go.
-use Rattle.std.specs.Prelude.{ℕ, ◌≡◌, Bool, true, List}
+use Rattle.std.specs.Prelude.{ℕ, ◌≡◌, Bool, true, List, slice_get, Some}
 use Rattle.rv_image_types.specs.declared.images.ImageParts.{ImageParts}
 use Rattle.cl_machine.specs.Cluster.{Cluster}
 use Rattle.cl_order_laws.specs.Closed.{Node}
 use Rattle.cl_order_laws.specs.Laws.{IsReached}
 use Rattle.cl_record.specs.Plans.{in_slot}
+use Rattle.cl_state.specs.Rank.{Rank}
+use Rattle.cl_state_laws.specs.Awake.{StandsAtCall}
 use Rattle.cl_moves.specs.Standing.{IsWay, StandsAt, by_order}
 use Rattle.cl_moves.specs.declared.standing.Standing.{Standing}
 use Rattle.cl_reduction_laws.specs.Below.{AreAlike}
@@ -43,3 +45,9 @@ GoesFirstOn search old new went =
 abbrev pub TellsFit : Search → Standing → Bool → Type 0
 TellsFit search standing fit =
     fit ≡ true → (image : ImageParts) (here : Node) → StandsAt image standing here → IsFit search here.cluster
+
+-- whichever node the standing is, each first hart that is to make its call anew stands at it
+abbrev pub TellsStart : Standing → Bool → Type 0
+TellsStart standing may =
+    may ≡ true → (image : ImageParts) (here : Node) → StandsAt image standing here
+    → (r : ℕ) (rank : Rank) → slice_get here.cluster.ranks r ≡ Some rank → StandsAtCall rank 0

@@ -15,6 +15,7 @@ ghost use Rattle.cl_contests.specs.Going.{TellsFit};
 
 use crate::asking::is_made_anew;
 use crate::patterns::Patterns;
+use crate::starts::waits_within;
 use cl_moves::{MoveFault, Standing};
 use cl_replay::ClusterState;
 use cl_state::{Ask, RankState, is_ecall};
@@ -31,7 +32,7 @@ fn has_room(whole: &WholeHub) -> bool
 }
 
 /// Whether the rank's first hart stands at the call that it is to make anew, if it is to make one anew.
-fn stands_at_call(own: &RankState) -> bool
+pub(crate) fn stands_at_call(own: &RankState) -> bool
     requires { 0 < vec_len own.now.harts }
     ensures { IsTrue result → StandsAtCall (rank_of own.now) 0 }
 {
@@ -115,8 +116,9 @@ fn is_fit_rank(
     Ok(rests_if(state, rank, own, waits, &ask))
 }
 
-/// Whether all ranks may be let go here: every rank asks within the patterns, a rank whose call repeats until something is
-/// there already waits in vain, and there are too few messages for a send to be refused.
+/// Whether all ranks may be let go here: every rank asks within the patterns, and did where a receive of any source waits; a
+/// rank whose call repeats until something is there already waits in vain; and there are too few messages for a send to be
+/// refused.
 ///
 /// Refusals: Memory.
 pub fn is_fit(standing: &Standing, patterns: &Patterns) -> Result<bool, MoveFault>
@@ -125,7 +127,7 @@ pub fn is_fit(standing: &Standing, patterns: &Patterns) -> Result<bool, MoveFaul
     let state = &standing.cluster;
     let count = state.ranks.len();
     // an image has at most 8 ranks
-    if count > 255 || !has_room(&standing.whole) {
+    if count > 255 || !has_room(&standing.whole) || !waits_within(&standing.whole, patterns) {
         return Ok(false);
     }
     for rank in 0..count {

@@ -12,8 +12,10 @@ mod lone;
 mod order;
 mod patterns;
 mod polls;
+mod starts;
 
 pub use first::{Went, go_first};
 pub use fit::is_fit;
 pub use order::is_first_hart;
 pub use patterns::{AskedBy, Pattern, Patterns};
+pub use starts::{add_waits, may_start};

@@ -152,7 +152,7 @@ impl Patterns {
     }
 
     /// Whether the rank may ask in the communicator for a message of this source, or of any.
-    fn allow_source(&self, rank: u8, comm: u8, source: Option<u8>) -> bool
+    pub(crate) fn allow_source(&self, rank: u8, comm: u8, source: Option<u8>) -> bool
         ensures { IsTrue result → AsksFrom (wild_of self.now.kept.items) rank comm source }
     {
         match source {
@@ -293,7 +293,12 @@ impl Patterns {
         self.keep(rank, Pattern::PollOfSends)
     }
 
-    fn add_source(&mut self, rank: u8, comm: u8, source: Option<u8>) -> Result<(), AllocError>
+    pub(crate) fn add_source(
+        &mut self,
+        rank: u8,
+        comm: u8,
+        source: Option<u8>,
+    ) -> Result<(), AllocError>
         ensures wild { OnOk result (AsksFrom (wild_of self.new.kept.items) rank comm source) }
         ensures keeps { OnOk result (Keeps self.old.kept.items self.new.kept.items) }
     {

@@ -31,7 +31,7 @@ use Rattle.cl_contests.specs.Below.{SettlesFirst}
 use Rattle.cl_contest_laws.specs.Lists.{IsOneOf}
 use Rattle.cl_contests.specs.Going.{IsSettledThere, LeadsOn}
 use Rattle.cl_contests.proofs.Below.{source_law}
-use Rattle.cl_explore.specs.How.{AreAlikeFor, AreAlikeIn, How, IsUncontested, at_once, by_contest, plainly}
+use Rattle.cl_explore.specs.How.{AreAlikeFor, AreAlikeIn, How, at_once, by_contest, plainly}
 use Rattle.cl_explore.specs.Covering.{AreJoined, AreLeads, AreNodes, Grows, HasLead, IsClosedAt, IsClosedFrom, IsReachedFrom, IsReachedTurn, LeadsGrow, Reaches}
 use Rattle.cl_explore.specs.Searching.{Adds, Arrives, GoesOn, IsFoundIn}
 use Rattle.cl_explore.specs.declared.kept.KeptNode.{KeptNode}
@@ -134,6 +134,11 @@ reaches_more (by_contest contest) order nodes more here grows settled = (
   settled.0,
   settled_into contest (IsOneOf nodes) (IsOneOf more) (one_of_more nodes more grows) settled.0 here.cluster settled.1,
 )
+
+-- no turns go first
+abbrev pub IsUncontested : How → Type 0
+IsUncontested (by_contest contest) = ⊥
+IsUncontested _ = Unit {0}
 
 -- one that is covered is reached, and so is one that is covered by one that is reached, where no turns go first
 pub reaches_covered : (how : How) (order : List ℕ) (nodes : List Node) (here : Node) → IsUncontested how

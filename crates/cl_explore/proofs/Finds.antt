@@ -1,5 +1,5 @@
 -- The search as a whole.
-use Rattle.std.specs.Prelude.{ℕ, zero, suc, ◌+◌, ◌<◌, ◌≤◌, ◌≡◌, ◌⊎◌, List, [], ◌++◌, length, option_map, reverse, slice_get, Option, None, Some, Bool, true, false, Result, Ok, Err, IfOk, IfSome, map}
+use Rattle.std.specs.Prelude.{ℕ, zero, suc, ◌+◌, ◌<◌, ◌≤◌, ◌≡◌, ◌⊎◌, List, [], ◌∷◌, ◌++◌, length, option_map, reverse, slice_get, Option, None, Some, Bool, true, false, Result, Ok, Err, IfOk, IfSome, map}
 use Rattle.std.proofs.Common.{refl, sym, ap, ◌∙◌, subst, arith, inl, inr}
 use Rattle.std.proofs.lemmas.Bool.{cases_eq}
 use Rattle.std.proofs.lemmas.List.{reverse-append, reverse-reverse}
@@ -9,13 +9,14 @@ use Rattle.cl_machine.specs.declared.steps.Step.{Step}
 use Rattle.cl_turns.specs.declared.Turn.{Turn}
 use Rattle.cl_machine.specs.Cluster.{Cluster, IsRun}
 use Rattle.cl_order_laws.specs.Alike.{hub_of}
-use Rattle.cl_order_laws.specs.Closed.{FollowPlans, IsEnd, Node}
+use Rattle.cl_order_laws.specs.Closed.{FollowPlans, IsCovered, IsEnd, Node, had_after}
 use Rattle.cl_order_laws.specs.Orders.{turn_of}
-use Rattle.cl_order_laws.specs.Splits.{HasAlike}
 use Rattle.cl_order_laws.proofs.AtOnce.{at_once_law}
 use Rattle.cl_order_laws.proofs.Deadlocks.{ends_law}
 use Rattle.cl_order_laws.proofs.Ends.{every_end_law}
-use Rattle.cl_moves.specs.Standing.{IsStart, IsWay, StandsAt, by_order, first_node}
+use Rattle.cl_order_laws.proofs.Walks.{covers_posts, walk_of}
+use Rattle.cl_order_laws.proofs.Walks.{follow as follow_walk}
+use Rattle.cl_moves.specs.Standing.{IsStart, IsWay, StandsAt, by_order, first_node, node_of}
 use Rattle.cl_moves.specs.Posts.{most_posts}
 use Rattle.cl_moves.specs.declared.standing.Standing.{Standing}
 use Rattle.cl_explore.specs.Kept.{IsBefore, IsLed}
@@ -25,7 +26,13 @@ use Rattle.cl_explore.specs.Companies.{IsCompanyAt, IsJudged, NotesStuck}
 use Rattle.cl_order_laws.specs.Laws.{AreAlike}
 use Rattle.cl_contests.proofs.Below.{source_law}
 use Rattle.cl_contest_laws.proofs.Contest.{contest_law}
-use Rattle.cl_explore.specs.How.{HasRoom, How, IsFitFor, IsUncontested, MayBegin, at_once, by_contest, plainly}
+use Rattle.cl_contest_laws.proofs.Starts.{good_law, starts_well_law}
+use Rattle.cl_contests.specs.Going.{IsFirstHart, TellsStart}
+use Rattle.cl_contests.specs.Kept.{search_of, wild_of}
+use Rattle.cl_contests.specs.Below.{WaitsWithin}
+use Rattle.cl_contests.specs.declared.patterns.AskedBy.{AskedBy}
+use Rattle.cl_contest_laws.specs.Below.{IsReachable}
+use Rattle.cl_explore.specs.How.{HasRoom, How, IsFitFor, MayBegin, at_once, by_contest, plainly}
 use Rattle.cl_explore.specs.Covering.{AreLeads, AreNodes, HasRoomAt, IsClosedAt, IsClosedFrom, Reaches}
 use Rattle.cl_explore.specs.Ends.{AreAlikeEnds, AreAllEnds, AreTurnsTo, BeginsAt, BeginsWell, Explored, ExploredBehind, ExploredFrom, ExploresFrom, Findings, Notes}
 use Rattle.cl_explore.specs.Orders.{IsLedBy, named}
@@ -36,7 +43,7 @@ use Rattle.cl_explore.specs.declared.moving.Visit.{Visit}
 use Rattle.cl_explore.specs.declared.search.Search.{Search}
 use Rattle.cl_explore.proofs.Lists.{at_inside, at_last, stays_at, was_or_new}
 use Rattle.cl_explore.proofs.Keeping.{led_at, no_way, way_on}
-use Rattle.cl_explore.proofs.Covers.{closed_more, closed_over, reaches_in, reaches_more}
+use Rattle.cl_explore.proofs.Covers.{closed_more, closed_over, reaches_in, reaches_more, reaches_on}
 
 -- ---- the first node
 
@@ -249,50 +256,81 @@ module _ (how : How) (image : ImageParts) (order : List ℕ) (start : Node) (old
 
 -- ---- in the end
 
--- where each node is closed, with few posts where calls for what is there are made at once, the nodes have each end
-pub ends_by : (how : How) (order : List ℕ) (nodes : List Node) (start : Node) → IsUncontested how
-    → Reaches how order nodes start → HasRoom how (hub_of start.cluster.journal)
-    → ((i r : ℕ) (node : Node) → slice_get nodes i ≡ Some node → IsClosedAt how order nodes node r)
-    → ((i : ℕ) (node : Node) → slice_get nodes i ≡ Some node → HasRoom how (hub_of node.cluster.journal))
-    → (steps : List Step) (end : Cluster) → IsRun start.cluster steps end
-    → FollowPlans (by_order order) start.had steps → IsEnd (by_order order) end → HasAlike nodes end
-ends_by (by_contest contest) order nodes start none reach room closed few = absurd none
-ends_by at_once order nodes start none reach room closed few = λ steps end run follow ended.
-    at_once_law.ends (by_order order) most_posts nodes start reach (omega (arith, room))
-    (record { each = λ i r node rank at here. closed i r node at rank here; few = few }) steps end run follow ended
-ends_by plainly order nodes start none reach room closed few = λ steps end run follow ended.
-    every_end_law (by_order order) nodes start reach
-    (record { each = λ i r node rank at here. closed i r node at rank here }) steps end run follow ended
+-- one of the nodes is an end that is alike the cluster
+abbrev pub HasEnd : List ℕ → List Node → Cluster → Type 0
+HasEnd order nodes end =
+    (i : ℕ) × (node : Node) × (slice_get nodes i ≡ Some node) × IsEnd (by_order order) node.cluster
+    × AreAlikeEnds end node.cluster
 
 -- likeness that keeps the order of all messages is likeness
-alike_ends : (a b : Cluster) → AreAlike a b → AreAlikeEnds a b
+pub alike_ends : (a b : Cluster) → AreAlike a b → AreAlikeEnds a b
 alike_ends a b alike = ((λ rank comm. false), source_law.same (λ rank comm. false) a b alike)
 
--- and the node that is alike an end is one
-pub ends_of : (how : How) (image : ImageParts) (order : List ℕ) (nodes : List Node) (start : Node)
-    → Reaches how order nodes start → MayBegin how image order start → HasRoom how (hub_of start.cluster.journal)
+-- where each node is closed, with few posts where calls for what is there are made at once, the nodes have each end
+pub ends_of : (how : How) (order : List ℕ) (nodes : List Node) (start : Node) → Reaches how order nodes start
+    → MayBegin how order start → HasRoom how (hub_of start.cluster.journal)
     → ((i r : ℕ) (node : Node) → slice_get nodes i ≡ Some node → IsClosedAt how order nodes node r)
     → ((i : ℕ) (node : Node) → slice_get nodes i ≡ Some node → HasRoom how (hub_of node.cluster.journal))
     → ((i : ℕ) (node : Node) → slice_get nodes i ≡ Some node → IsFitFor how node.cluster)
     → (steps : List Step) (end : Cluster) → IsRun start.cluster steps end
-    → FollowPlans (by_order order) start.had steps → IsEnd (by_order order) end
-    → (i : ℕ) × (node : Node) × (slice_get nodes i ≡ Some node) × IsEnd (by_order order) node.cluster
-    × AreAlikeEnds end node.cluster
-ends_of (by_contest contest) image order nodes start reach begins room closed few fit = λ steps end run follow ended.
-    let v = contest_law.ends contest (by_order order) nodes start begins.1 reach
+    → FollowPlans (by_order order) start.had steps → IsEnd (by_order order) end → HasEnd order nodes end
+ends_of (by_contest contest) order nodes start reach begins room closed few fit = λ steps end run follow ended.
+    let v = contest_law.ends contest (by_order order) nodes start begins reach
     (record { closed = λ i r node rank at here. closed i r node at rank here; fit = fit }) steps end run follow ended in
     (v.0, v.1, v.2, v.3, (contest.wild, v.4))
-ends_of at_once image order nodes start reach begins room closed few fit = λ steps end run follow ended.
-    let v = ends_by at_once order nodes start tt reach room closed few steps end run follow ended in
+ends_of at_once order nodes start reach begins room closed few fit = λ steps end run follow ended.
+    let v = at_once_law.ends (by_order order) most_posts nodes start reach (omega (arith, room))
+    (record { each = λ i r node rank at here. closed i r node at rank here; few = few }) steps end run follow ended in
     (v.0, v.1, v.2, ends_law.ends (by_order order) end (v.1).cluster v.3 ended, alike_ends end (v.1).cluster v.3)
-ends_of plainly image order nodes start reach begins room closed few fit = λ steps end run follow ended.
-    let v = ends_by plainly order nodes start tt reach room closed few steps end run follow ended in
+ends_of plainly order nodes start reach begins room closed few fit = λ steps end run follow ended.
+    let v = every_end_law (by_order order) nodes start reach
+    (record { each = λ i r node rank at here. closed i r node at rank here }) steps end run follow ended in
     (v.0, v.1, v.2, ends_law.ends (by_order order) end (v.1).cluster v.3 ended, alike_ends end (v.1).cluster v.3)
+
+-- as many posts were made where a node covers
+room_covered : (how : How) (order : List ℕ) (node here : Node) → IsCovered (by_order order) (node ∷ []) here
+    → HasRoom how (hub_of node.cluster.journal) → HasRoom how (hub_of here.cluster.journal)
+room_covered at_once order node here cov room =
+    (let same = covers_posts (by_order order) node here cov in omega (arith, same, room))
+room_covered plainly order node here cov room = tt
+room_covered (by_contest contest) order node here cov room = tt
+
+-- and so of runs from what the first node covers
+pub covered_ends : (how : How) (order : List ℕ) (nodes : List Node) (start here : Node)
+    → IsCovered (by_order order) (start ∷ []) here → Reaches how order nodes start
+    → MayBegin how order start → HasRoom how (hub_of start.cluster.journal)
+    → ((i r : ℕ) (node : Node) → slice_get nodes i ≡ Some node → IsClosedAt how order nodes node r)
+    → ((i : ℕ) (node : Node) → slice_get nodes i ≡ Some node → HasRoom how (hub_of node.cluster.journal))
+    → ((i : ℕ) (node : Node) → slice_get nodes i ≡ Some node → IsFitFor how node.cluster)
+    → (steps : List Step) (end : Cluster) → IsRun here.cluster steps end
+    → FollowPlans (by_order order) here.had steps → IsEnd (by_order order) end → HasEnd order nodes end
+covered_ends (by_contest contest) order nodes start here cov reach begins room closed few fit = λ steps end run follow ended.
+    let plans = by_order order in
+    let walk = walk_of plans steps here.cluster end here.had run follow in
+    let f = follow_walk plans (map (λ (e : Step). e.rank) steps) start here (node_of end (had_after here.had steps)) cov walk ended in
+    let there = ends_law.ends plans end (f.last).cluster f.alike ended in
+    let v = contest_law.walks contest plans nodes start begins reach
+    (record { closed = λ i r node rank at here. closed i r node at rank here; fit = fit }) f.ranks f.last f.walk there in (
+      v.0,
+      v.1,
+      v.2,
+      v.3,
+      (
+        contest.wild,
+        source_law.on contest.wild end (f.last).cluster (v.1).cluster (source_law.same contest.wild end (f.last).cluster f.alike) v.4,
+      ),
+    )
+covered_ends at_once order nodes start here cov reach begins room closed few fit =
+    ends_of at_once order nodes here (reaches_on at_once order nodes here start tt cov reach) tt
+    (room_covered at_once order start here cov room) closed few fit
+covered_ends plainly order nodes start here cov reach begins room closed few fit =
+    ends_of plainly order nodes here (reaches_on plainly order nodes here start tt cov reach) tt
+    (room_covered plainly order start here cov room) closed few fit
 
 module _ (how : How) (image : ImageParts) (order : List ℕ) (start : Node) (search : Search) (found : Findings)
     (done : ℕ) (explored : SoFar how image order start search found.ends found.companies done)
     (kept : found.kept ≡ search.nodes.items) (leads : found.leads ≡ search.leads.items)
-    (room : HasRoom how (hub_of start.cluster.journal)) (begins_well : MayBegin how image order start) where
+    (room : HasRoom how (hub_of start.cluster.journal)) (begins_well : MayBegin how order start) where
   abbrev them : List Node
   them = explored.nodes
 
@@ -305,7 +343,7 @@ module _ (how : How) (image : ImageParts) (order : List ℕ) (start : Node) (sea
       let low : (i : ℕ) (node : Node) → slice_get them i ≡ Some node → i < done =
       λ i node at.
       let inside = slice_get_within them i node at in omega (arith, inside, all, ((explored.found).are).many) in
-      let one = ends_of how image order them start explored.start_is begins_well room
+      let one = ends_of how order them start explored.start_is begins_well room
       (λ i r node at. closed_at i r node (low i node at) at) (λ i node at. explored.few i node (low i node at) at)
       (λ i node at. explored.fit i node (low i node at) at) steps end run follow ended in
       let k = explored.all one.0 one.1 (low one.0 one.1 one.2) one.2 one.3 in
@@ -382,35 +420,51 @@ tells_from how order standing search found done room so_far kept leads many = λ
 
 -- from the loaded cluster
 pub explored_start : (how : How) (image : ImageParts) (order : List ℕ) (standing : Standing) (found : Findings)
-    → IsStart image standing → MayBegin how image order (first_node image) → ExploresFrom how order standing found
+    → IsStart image standing → MayBegin how order (first_node image) → ExploresFrom how order standing found
     → (e : Explored image order found) × (e.how ≡ how)
 explored_start how image order standing found start begins_well explores =
     explores image (first_node image) start.stands
     (no_way (by_order order) (first_node image) standing.steps.items start.steps) begins_well
 
--- from where turns lead, without turns that go first
+-- from where turns lead
 pub explored_behind : (how : How) (image : ImageParts) (order : List ℕ) (turns : List Turn) (standing : Standing)
-    (found : Findings) → IsUncontested how → IsLedBy image order turns standing → ExploresFrom how order standing found
+    (found : Findings) (led : IsLedBy image order turns standing) → MayBegin how order led.here
+    → ExploresFrom how order standing found
     → ExploredBehind image order turns found
-explored_behind (by_contest contest) image order turns standing found none led explores = absurd none
-explored_behind at_once image order turns standing found none led explores =
-    let v = explores image led.here led.stands (led.ordered).way tt in
-    record {
-      steps = standing.steps.items;
-      start = led.here;
-      ordered = led.ordered;
-      explored = v.0;
-      uncontested = subst IsUncontested (sym v.1) tt;
-    }
-explored_behind plainly image order turns standing found none led explores =
-    let v = explores image led.here led.stands (led.ordered).way tt in
-    record {
-      steps = standing.steps.items;
-      start = led.here;
-      ordered = led.ordered;
-      explored = v.0;
-      uncontested = subst IsUncontested (sym v.1) tt;
-    }
+explored_behind how image order turns standing found led begins_well explores = record {
+  steps = standing.steps.items;
+  start = led.here;
+  ordered = led.ordered;
+  explored = (explores image led.here led.stands (led.ordered).way begins_well).0;
+}
+
+-- no turns lead to the loaded cluster
+no_turns : (steps : List Step) → map turn_of steps ≡ map named [] → steps ≡ []
+no_turns [] e = refl
+no_turns (step ∷ steps) e = absurd (cc)
+
+pub same_node : (a b : Node) → a.cluster ≡ b.cluster → a.had ≡ b.had → a ≡ b
+same_node a b cluster had = λ i. record { cluster = cluster i; had = had i }
+
+pub explored_all : (image : ImageParts) (order : List ℕ) (found : Findings) → ExploredBehind image order [] found
+    → Explored image order found
+explored_all image order found behind =
+    let start = behind.start in
+    let none = no_turns behind.steps (behind.ordered).turns_are in
+    let way = subst (λ steps. IsWay (by_order order) (first_node image) steps start) none (behind.ordered).way in
+    subst (λ n. ExploredFrom image order n found) (same_node start (first_node image) way.run way.had) behind.explored
+
+-- where ranks have one hart each a search may begin wherever turns lead, by patterns that have the receives that wait there
+pub may_begin : (kept : List AskedBy) (image : ImageParts) (order : List ℕ) (turns : List Turn) (standing : Standing)
+    (led : IsLedBy image order turns standing) → IsFirstHart order → image.harts ≡ 1 → WaitsWithin (wild_of kept) standing.whole
+    → TellsStart standing true → MayBegin (by_contest (search_of kept)) order led.here
+may_begin kept image order turns standing led first harts waits tells =
+    let contest = search_of kept in
+    let here = led.here in
+    let reachable : IsReachable image here.cluster = (standing.steps.items, ((led.ordered).way).run) in
+    starts_well_law contest (by_order order) image here.cluster (λ r. refl) (λ r n. first n) harts reachable
+    (good_law contest image here.cluster reachable (subst (WaitsWithin (wild_of kept)) (led.stands).whole waits)
+    (tells refl image here led.stands))
 
 pub if_some_on : {A : Type 0} {P Q : A → Type 0} (o : Option A) → ((a : A) → P a → Q a) → IfSome o P → IfSome o Q
 if_some_on None on is = tt

@@ -13,7 +13,7 @@ use Rattle.cl_moves.specs.Standing.{IsWay, StandsAt, by_order, first_node}
 use Rattle.cl_moves.specs.declared.standing.Standing.{Standing}
 use Rattle.cl_explore.specs.Companies.{IsCompanyAt, IsJudged}
 use Rattle.cl_explore.specs.Covering.{AreLeads, AreNodes, IsClosedAt, IsClosedFrom, Reaches}
-use Rattle.cl_explore.specs.How.{HasRoom, How, IsFitFor, IsUncontested, MayBegin, plainly}
+use Rattle.cl_explore.specs.How.{HasRoom, How, IsFitFor, MayBegin, plainly}
 use Rattle.cl_explore.specs.Orders.{IsOrderedWay}
 use Rattle.cl_explore.specs.declared.companies.Company.{Company}
 use Rattle.cl_explore.specs.declared.exploring.Exploration.{Exploration}
@@ -71,7 +71,7 @@ pub record ExploredFrom (image : ImageParts) (order : List ℕ) (start : Node) (
   pub are : AreNodes image order found.kept nodes
   pub how : How
   pub start_is : Reaches how order nodes start
-  pub begins : MayBegin how image order start
+  pub begins : MayBegin how order start
   pub room : HasRoom how (hub_of start.cluster.journal)
   pub leads : AreLeads how order nodes found.leads
   pub follows : (i r : ℕ) (node : Node) → IsVisitedNode nodes found.left i node
@@ -100,7 +100,7 @@ ExploredPlainly image order found = (explored : Explored image order found) × (
 abbrev pub ExploresFrom : How → List ℕ → Standing → Findings → Type 0
 ExploresFrom how order standing found =
     (image : ImageParts) (here : Node) → StandsAt image standing here
-    → IsWay (by_order order) (first_node image) standing.steps.items here → MayBegin how image order here
+    → IsWay (by_order order) (first_node image) standing.steps.items here → MayBegin how order here
     → (explored : ExploredFrom image order here found) × (explored.how ≡ how)
 
 -- what was told is still so, from whichever node the search began at
@@ -114,7 +114,6 @@ pub record ExploredBehind (image : ImageParts) (order : List ℕ) (turns : List 
   pub start : Node
   pub ordered : IsOrderedWay image order turns steps start
   pub explored : ExploredFrom image order start found
-  pub uncontested : IsUncontested explored.how
 
 -- turns that lead to whichever node is kept at this number
 abbrev pub AreTurnsTo : List KeptNode → ℕ → List Turn → Type 0

@@ -5,8 +5,7 @@ use Rattle.cl_order_laws.specs.Closed.{Node}
 use Rattle.cl_order_laws.specs.Laws.{AreAlike as AreSame}
 use Rattle.mp_hub.specs.Hub.{HubView}
 use Rattle.cl_moves.specs.Posts.{most_posts}
-use Rattle.cl_moves.specs.Standing.{by_order, first_node}
-use Rattle.rv_image_types.specs.declared.images.ImageParts.{ImageParts}
+use Rattle.cl_moves.specs.Standing.{by_order}
 use Rattle.cl_contests.specs.Below.{AreAlike, Contest, IsFit}
 use Rattle.cl_contest_laws.specs.Below.{AreAlikeNodes}
 use Rattle.cl_contest_laws.specs.Lists.{StartsWell}
@@ -31,11 +30,6 @@ how_of ways.First kept = by_contest (search_of kept)
 
 abbrev pub how_in : Manner → How
 how_in manner = how_of manner.way manner.patterns.now.kept.items
-
--- no turns go first
-abbrev pub IsUncontested : How → Type 0
-IsUncontested (by_contest contest) = ⊥
-IsUncontested _ = Unit {0}
 
 -- ---- which nodes are alike
 
@@ -62,11 +56,10 @@ abbrev pub IsFitFor : How → Cluster → Type 0
 IsFitFor (by_contest contest) cluster = IsFit contest cluster
 IsFitFor _ cluster = Unit {0}
 
--- and the search begins at the loaded cluster, of ranks with one hart each
-abbrev pub MayBegin : How → ImageParts → List ℕ → Node → Type 0
-MayBegin (by_contest contest) image order start =
-    (start ≡ first_node image) × StartsWell contest (by_order order) start.cluster
-MayBegin _ image order start = Unit {0}
+-- and the search begins at a cluster of ranks with one hart each
+abbrev pub MayBegin : How → List ℕ → Node → Type 0
+MayBegin (by_contest contest) order start = StartsWell contest (by_order order) start.cluster
+MayBegin _ order start = Unit {0}
 
 -- a search is halted for what ranks ask only where turns go first
 abbrev pub IsHaltOf : Way → Halt → Type 0

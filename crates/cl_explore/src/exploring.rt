@@ -6,9 +6,9 @@ ghost use Rattle.cl_order_laws.specs.Closed.{Node};
 ghost use Rattle.cl_moves.specs.Standing.{IsWay, by_order, first_node};
 ghost use Rattle.cl_moves.specs.declared.standing.Standing.{Standing as StandingView};
 ghost use Rattle.cl_explore.specs.Covering.{AreNodes, HasRoomAt};
-ghost use Rattle.cl_contests.specs.Going.{IsFirstHart};
+ghost use Rattle.cl_contests.specs.Kept.{search_of};
 ghost use Rattle.cl_contests.specs.declared.patterns.AskedBy.{AskedBy};
-ghost use Rattle.cl_explore.specs.How.{HasRoom, IsHaltOf, at_once, how_in, how_of, plainly};
+ghost use Rattle.cl_explore.specs.How.{HasRoom, IsHaltOf, at_once, by_contest, how_in, how_of, plainly};
 ghost use Rattle.cl_explore.specs.declared.course.Way.TheVariants as ways;
 ghost use Rattle.cl_explore.specs.Ends.{AreEnough, AreTurnsTo, BeginsAt, Explored, ExploredBehind, ExploredPlainly, ExploresFrom, HasLonger, IsBounded, IsLonger, Notes, StillExplores, findings};
 ghost use Rattle.cl_explore.specs.Visiting.{NotesVisit, findings_of};
@@ -23,7 +23,7 @@ use crate::leads::Lead;
 use crate::moving::{Visit, settle};
 use crate::orders::{OrderFault, follow, turns_in};
 use crate::search::Search;
-use cl_contests::{Patterns, is_first_hart};
+use cl_contests::{Patterns, add_waits, is_first_hart, may_start};
 use cl_lines::{Progress, put_progress};
 use cl_machine::Step;
 use cl_moves::{MoveFault, Standing};
@@ -370,7 +370,8 @@ fn search_on<E: Write>(
     }))
 }
 
-/// The same in this way, by these patterns of all ranks.
+/// The same in this way, by these patterns of all ranks. None too where a rank asked beside the patterns, which is left in
+/// `missing`, or where not all ranks may be let go at a cluster in which nobody goes first.
 fn search<E: Write>(
     course: &Course<'_>,
     mut standing: Standing,
@@ -379,14 +380,13 @@ fn search<E: Write>(
     patterns: &Patterns,
     missing: &mut Patterns,
     err: &mut E,
-) -> Result<Option<Exploration>, Halt>
+) -> Result<Option<Exploration>, MoveFault>
     requires { 0 < length course.now.order.now }
     ensures ends { IfOk result (λ o. IfSome o (λ found.
         ExploresFrom (how_of way patterns.now.kept.items) course.now.order.now standing (findings found))) }
     ensures most { IfOk result (λ o. IfSome o (λ found.
         IsBounded bounds.states bounds.enough course.now.most found.nodes.items found.left)) }
     ensures plain { way ≡ ways.Plainly → IfOk result (λ o. is_some o ≡ true) }
-    ensures halt { IfErr result (IsHaltOf way) }
     ensures progress { TellsProgress course.now.progress (E.contents err.old) (E.contents err.new) }
 {
     let manner = Manner {
@@ -397,7 +397,11 @@ fn search<E: Write>(
         way,
         patterns,
     };
-    search_on(&manner, &mut standing, bounds, missing, err)
+    match search_on(&manner, &mut standing, bounds, missing, err) {
+        Ok(found) => Ok(found),
+        Err(Halt::Fault(fault)) => Err(fault),
+        Err(Halt::Outside) => Ok(None),
+    }
 }
 
 /// The same with calls for what is there made at once.
@@ -415,7 +419,7 @@ fn search_at_once<E: Write>(
 {
     let none = Patterns::new(course.alloc);
     let mut missing = Patterns::new(course.alloc);
-    match search(
+    search(
         course,
         standing,
         bounds,
@@ -423,11 +427,7 @@ fn search_at_once<E: Write>(
         &none,
         &mut missing,
         err,
-    ) {
-        Ok(found) => Ok(found),
-        Err(Halt::Fault(fault)) => Err(fault),
-        Err(Halt::Outside) => unreachable!(),
-    }
+    )
 }
 
 /// The same without them.
@@ -453,56 +453,32 @@ fn search_plainly<E: Write>(
         &none,
         &mut missing,
         err,
-    ) {
-        Ok(Some(found)) => Ok(found),
-        Ok(None) => unreachable!(),
-        Err(Halt::Fault(fault)) => Err(fault),
-        Err(Halt::Outside) => unreachable!(),
+    )? {
+        Some(found) => Ok(found),
+        None => unreachable!(),
     }
 }
 
-/// The same from the loaded cluster, with turns that nobody contests taken first. None where a rank asked beside the
-/// patterns, which is left in `missing`, or where not all ranks may be let go at a cluster in which nobody goes first.
-#[tactic(auto, using(cl_lines::proofs::Behind::nothing_told))]
-fn search_first<E: Write>(
-    course: &Course<'_>,
-    image: &Image,
-    bounds: Bounds,
-    patterns: &Patterns,
-    missing: &mut Patterns,
-    err: &mut E,
-) -> Result<Option<Exploration>, MoveFault>
-    requires order { 0 < length course.now.order.now }
-    requires first { IsFirstHart course.now.order.now }
-    requires harts { image.now.harts ≡ 1 }
-    ensures ends { IfOk result (λ o. IfSome o (λ found. Explored image.now course.now.order.now (findings found))) }
-    ensures most { IfOk result (λ o. IfSome o (λ found.
-        IsBounded bounds.states bounds.enough course.now.most found.nodes.items found.left)) }
-    ensures progress { TellsProgress course.now.progress (E.contents err.old) (E.contents err.new) }
-{
-    let standing = Standing::load(course.alloc, image)?;
-    match search(course, standing, bounds, Way::First, patterns, missing, err) {
-        Ok(found) => Ok(found),
-        Err(Halt::Fault(fault)) => Err(fault),
-        Err(Halt::Outside) => Ok(None),
-    }
-}
-
-/// The same by the patterns that all ranks turn out to have: while one asks beside those that are known, the search begins
-/// again with these. None where ranks have several harts, where some ask what has no pattern, or where not all may be let go
-/// though nobody goes first. `pass` is the next pass of the search.
+/// The same from where turns lead, by the patterns that all ranks turn out to have: while one asks beside those that are
+/// known, the search begins again with these. None where ranks have several harts, where some ask what has no pattern, or
+/// where not all may be let go though nobody goes first. `pass` is the next pass of the search.
+///
+/// Refusals: NoTurn where the machine has no such turn there, Clock, Memory.
 #[tactic(auto, using(cl_lines::proofs::Behind::nothing_told))]
 fn search_by_patterns<E: Write>(
     course: &Course<'_>,
     image: &Image,
+    turns: &[Turn],
     states: usize,
     pass: &mut u64,
     err: &mut E,
-) -> Result<Option<Exploration>, MoveFault>
+) -> Result<Option<Exploration>, OrderFault>
     requires { 0 < length course.now.order.now }
-    ensures ends { IfOk result (λ o. IfSome o (λ found. Explored image.now course.now.order.now (findings found))) }
+    ensures ends { IfOk result (λ o. IfSome o (λ found.
+        ExploredBehind image.now course.now.order.now turns.now (findings found))) }
     ensures most { IfOk result (λ o. IfSome o (λ found.
         IsBounded states None course.now.most found.nodes.items found.left)) }
+    ensures fault { IfErr result (OrderFaultHolds image.now course.now.order.now turns.now) }
     ensures progress { TellsProgress course.now.progress (E.contents err.old) (E.contents err.new) }
 {
     if image.parts().harts != 1 || !is_first_hart(course.order) {
@@ -516,7 +492,20 @@ fn search_by_patterns<E: Write>(
             enough: None,
             pass: *pass,
         };
-        let found = search_first(course, image, bounds, &patterns, &mut missing, err)?;
+        let standing = follow(course, image, turns)?;
+        add_waits(&mut patterns, &standing.whole)?;
+        if !may_start(&standing) {
+            return Ok(None);
+        }
+        let found = search(
+            course,
+            standing,
+            bounds,
+            Way::First,
+            &patterns,
+            &mut missing,
+            err,
+        )?;
         if found.is_some() {
             return Ok(found);
         }
@@ -536,7 +525,6 @@ fn search_by_patterns<E: Write>(
 /// rank took more turns by itself than it was let at once. Where that is wanted, lines on `err` say how far it came.
 ///
 /// Refusals: Clock, Memory.
-#[tactic(auto, using(cl_lines::proofs::Behind::nothing_told))]
 pub fn explore<E: Write>(
     course: &Course<'_>,
     image: &Image,
@@ -548,8 +536,32 @@ pub fn explore<E: Write>(
     ensures most { IfOk result (λ found. IsBounded states None course.now.most found.nodes.items found.left) }
     ensures progress { TellsProgress course.now.progress (E.contents err.old) (E.contents err.new) }
 {
+    match explore_from(course, image, &[], states, err) {
+        Ok(found) => Ok(found),
+        Err(OrderFault::Move(fault)) => Err(fault),
+        Err(OrderFault::NoTurn(_)) => unreachable!(),
+    }
+}
+
+/// The same as `explore`, from where the turns of an order lead: of the runs that begin with those turns.
+///
+/// Refusals: NoTurn where the machine has no such turn there, Clock, Memory.
+#[tactic(auto, using(cl_lines::proofs::Behind::nothing_told))]
+pub fn explore_from<E: Write>(
+    course: &Course<'_>,
+    image: &Image,
+    turns: &[Turn],
+    states: usize,
+    err: &mut E,
+) -> Result<Exploration, OrderFault>
+    requires { 0 < length course.now.order.now }
+    ensures ends { IfOk result (λ found. ExploredBehind image.now course.now.order.now turns.now (findings found)) }
+    ensures most { IfOk result (λ found. IsBounded states None course.now.most found.nodes.items found.left) }
+    ensures fault { IfErr result (OrderFaultHolds image.now course.now.order.now turns.now) }
+    ensures progress { TellsProgress course.now.progress (E.contents err.old) (E.contents err.new) }
+{
     let mut pass = 1;
-    if let Some(found) = search_by_patterns(course, image, states, &mut pass, err)? {
+    if let Some(found) = search_by_patterns(course, image, turns, states, &mut pass, err)? {
         return Ok(found);
     }
     let bounds = Bounds {
@@ -557,12 +569,13 @@ pub fn explore<E: Write>(
         enough: None,
         pass,
     };
-    let standing = Standing::load(course.alloc, image)?;
+    let standing = follow(course, image, turns)?;
     if let Some(found) = search_at_once(course, standing, bounds, err)? {
         return Ok(found);
     }
-    let again = Standing::load(course.alloc, image)?;
-    search_plainly(course, again, bounds.next(), err)
+    let again = follow(course, image, turns)?;
+    let found = search_plainly(course, again, bounds.next(), err)?;
+    Ok(found)
 }
 
 /// The same until so many nodes are left or more, from each of which one may go on by itself, and without calls that are
@@ -591,37 +604,6 @@ pub fn split<E: Write>(
         pass: 1,
     };
     search_plainly(course, standing, bounds, err)
-}
-
-/// The same as `explore`, from where the turns of an order lead: of the runs that begin with those turns.
-///
-/// Refusals: NoTurn where the machine has no such turn there, Clock, Memory.
-#[tactic(auto, using(cl_lines::proofs::Behind::nothing_told))]
-pub fn explore_from<E: Write>(
-    course: &Course<'_>,
-    image: &Image,
-    turns: &[Turn],
-    states: usize,
-    err: &mut E,
-) -> Result<Exploration, OrderFault>
-    requires { 0 < length course.now.order.now }
-    ensures ends { IfOk result (λ found. ExploredBehind image.now course.now.order.now turns.now (findings found)) }
-    ensures most { IfOk result (λ found. IsBounded states None course.now.most found.nodes.items found.left) }
-    ensures fault { IfErr result (OrderFaultHolds image.now course.now.order.now turns.now) }
-    ensures progress { TellsProgress course.now.progress (E.contents err.old) (E.contents err.new) }
-{
-    let bounds = Bounds {
-        states,
-        enough: None,
-        pass: 1,
-    };
-    let standing = follow(course, image, turns)?;
-    if let Some(found) = search_at_once(course, standing, bounds, err)? {
-        return Ok(found);
-    }
-    let again = follow(course, image, turns)?;
-    let found = search_plainly(course, again, bounds.next(), err)?;
-    Ok(found)
 }
 
 /// The same steps, the last one first.

@@ -314,7 +314,7 @@ module _ (plans : Plans) where
       omega (arith, ahead, alike, same, low)
 
   -- the rank whose turn it was is told something
-  told_so : (old new : Cluster) (e : Step) (x : Rank) (kind : Kind) → CaseOf old e x kind new
+  pub told_so : (old new : Cluster) (e : Step) (x : Rank) (kind : Kind) → CaseOf old e x kind new
       → (answer : Answer) × (new.ranks ≡ slice_set old.ranks e.rank (told x e.hart answer e.stamp))
   told_so old new e x Kind.Plain c = (Answer.Alone, ap (λ (n : Cluster). n.ranks) c.2)
   told_so old new e x Kind.Local c = (Answer.Alone, ap (λ (n : Cluster). n.ranks) c.2)

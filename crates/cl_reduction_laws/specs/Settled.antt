@@ -3,6 +3,7 @@ use Rattle.std.specs.Prelude.{ℕ, zero, suc, ◌+◌, ◌<◌, ◌≡◌, ◌�
 use Rattle.std.specs.List.{slice_get}
 use Rattle.mp_types.specs.declared.replies.Reply.TheVariants.{NotYet}
 use Rattle.mp_types.specs.declared.requests.Request.TheVariants as request
+use Rattle.mp_clash_laws.specs.Exchanges.{WaitsWithin}
 use Rattle.cl_state.specs.declared.asking.Ask.{Ask}
 use Rattle.cl_state.specs.Asked.{asked, doing, part_of}
 use Rattle.cl_state.specs.Rank.{Rank}
@@ -10,6 +11,7 @@ use Rattle.cl_state_laws.specs.Awake.{StandsAtCall}
 use Rattle.cl_state_laws.specs.Vain.{waits_on}
 use Rattle.cl_machine.specs.Cluster.{Cluster}
 use Rattle.cl_machine.specs.Journal.{reply_in}
+use Rattle.cl_order_laws.specs.Alike.{hub_of}
 use Rattle.cl_order_laws.specs.Closed.{Plans, WaitsInVain}
 use Rattle.cl_first_laws.specs.Below.{AreAlike}
 use Rattle.cl_first_laws.specs.Laws.{Turn}
@@ -51,10 +53,11 @@ RestsIfWaiting search c r rank =
     waits_on (doing rank.site (part_of rank (search.harts r))) ≡ true
     → WaitsInVain c r rank (search.harts r) ⊎ FindsClaim c r (asked rank (search.harts r))
 
--- what is known of each: what ranks ask is within the patterns, no send is refused, who waits waits in vain or finds what it
--- claims, and a hart that is to make its call anew stands at it
+-- what is known of each: what ranks ask is within the patterns, receives of any source wait only where those may be made, no
+-- send is refused, who waits waits in vain or finds what it claims, and a hart that is to make its call anew stands at it
 pub record IsFit (search : Search) (c : Cluster) : Type 0 where
   pub within : AllWithin search c
+  pub waits : WaitsWithin search.wild (hub_of c.journal)
   pub room : posts_of c + 3 < 65536
   pub rests : (r : ℕ) (rank : Rank) → slice_get c.ranks r ≡ Some rank → RestsIfWaiting search c r rank
   pub stands : (r : ℕ) (rank : Rank) → slice_get c.ranks r ≡ Some rank → StandsAtCall rank (search.harts r)

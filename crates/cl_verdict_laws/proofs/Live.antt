@@ -40,14 +40,8 @@ use Rattle.cl_post_laws.proofs.Renamed.{only}
 use Rattle.cl_reduction_laws.specs.Below.{AskOfLive}
 use Rattle.cl_reduction_laws.specs.Clusters.{may_be_named}
 use Rattle.cl_reduction_laws.proofs.Naming.{asks_of_live, named_inside, names_more}
-use Rattle.cl_verdict_laws.specs.Live.{LiveLaw}
+use Rattle.cl_verdict_laws.specs.Live.{LiveLaw, NamesLaw, NamesLive}
 use Rattle.cl_verdict_laws.proofs.Naming.{named_on, names_on}
-
--- each rank names only posts that it may have to name
-abbrev NamesLive : Cluster → Type 0
-NamesLive c =
-    (r : ℕ) (rank : Rank) → slice_get c.ranks r ≡ Some rank
-    → NamesOnly (may_be_named (hub_of c.journal).board.lines) rank
 
 -- ---- the loaded cluster names none
 
@@ -152,6 +146,9 @@ names_run (e ∷ steps) old new names run =
     let p = deed_of old e run.0 run.1 in
     names_run steps run.0 new (names_goes old run.0 p.0 names p.2) run.2
 
+pub names_law : NamesLaw
+names_law image c reached = names_run reached.0 (loaded_cluster image) c (names_none image) reached.1
+
 -- ---- what ranks ask
 
 pub live_law : LiveLaw
@@ -161,7 +158,7 @@ live_law image c reached r rank hart there = go (asked rank hart) refl
     board = (hub_of c.journal).board
 
     names : NamesOnly (may_be_named board.lines) rank
-    names = names_run reached.0 (loaded_cluster image) c (names_none image) reached.1 r rank there
+    names = names_law image c reached r rank there
 
     go : (q : Ask) → asked rank hart ≡ q → AskOfLive c q
     go (Ask.Hub q) is =

@@ -1,7 +1,7 @@
 //! Laws of alike clusters, over the definitions alone: functions with empty bodies, whose contracts are the laws.
 
 ghost use Rattle.cl_verdict_laws.specs.Asking.{AskingLaw};
-ghost use Rattle.cl_verdict_laws.specs.Live.{LiveLaw};
+ghost use Rattle.cl_verdict_laws.specs.Live.{LiveLaw, NamesLaw};
 ghost use Rattle.cl_verdict_laws.specs.Unpaired.{UnpairedLaw};
 ghost use Rattle.cl_verdict_laws.specs.Verdicts.{VerdictLaw};
 
@@ -13,6 +13,11 @@ pub fn unpaired_law()
 /// If one hub doesn't have what a rank asks for, no alike hub has it, and the same ranks could bring it.
 pub fn asking_law()
     ensures { AskingLaw }
+{}
+
+/// Wherever a run leads, ranks keep the numbers of no standard sends.
+pub fn names_law()
+    ensures { NamesLaw }
 {}
 
 /// Wherever a run leads, no rank asks about a send whose message was collected.

@@ -8,20 +8,17 @@ use Rattle.cl_machine.specs.Cluster.{Cluster, IsRun, loaded_cluster}
 use Rattle.cl_machine.specs.declared.steps.Step.{Step}
 use Rattle.cl_order_laws.specs.Alike.{hub_of}
 use Rattle.cl_order_laws.specs.Closed.{FollowPlans, IsCovered, IsEnd, Node, Plans, Turns, had_after, none_had, one_more}
-use Rattle.cl_order_laws.specs.Laws.{AreAlike}
-use Rattle.cl_order_laws.specs.Splits.{HasAlike}
 use Rattle.cl_order_laws.proofs.Covered.{covered_among, step_covered}
 use Rattle.cl_order_laws.proofs.Deadlocks.{ends_law}
 use Rattle.cl_order_laws.proofs.Ends.{end_alike}
 use Rattle.cl_order_laws.proofs.Orders.{one_order_law}
 use Rattle.cl_order_laws.proofs.Steps.{step_leads}
-use Rattle.cl_order_laws.proofs.Walks.{covers_posts}
 use Rattle.cl_moves.specs.Standing.{by_order, first_node, node_of}
 use Rattle.cl_explore.specs.Covering.{IsClosedAt, Reaches}
-use Rattle.cl_explore.specs.How.{HasRoom, How, at_once, by_contest, plainly}
+use Rattle.cl_explore.specs.Ends.{AreAlikeEnds}
+use Rattle.cl_explore.specs.How.{HasRoom, MayBegin, plainly}
 use Rattle.cl_explore.specs.Orders.{IsOrderedWay}
-use Rattle.cl_explore.proofs.Covers.{reaches_on}
-use Rattle.cl_explore.proofs.Finds.{ends_by}
+use Rattle.cl_explore.proofs.Finds.{HasEnd, covered_ends, same_node}
 use Rattle.cl_explore.proofs.Lists.{at_inside}
 use Rattle.rvmc_starts.specs.declared.starts.Start.{Start}
 use Rattle.rvmc_explore.specs.Outcomes.{IsEndBody}
@@ -29,9 +26,6 @@ use Rattle.rvmc_explore.specs.SplitLaw.{HasEndAs, IsToldWhole, SplitLaw}
 use Rattle.rvmc_explore.specs.Splitting.{IsSplit, IsStartNumber}
 
 -- ---- one order, one node
-
-same_node : (a b : Node) → a.cluster ≡ b.cluster → a.had ≡ b.had → a ≡ b
-same_node a b cluster had = λ i. record { cluster = cluster i; had = had i }
 
 pub one_place : (image : ImageParts) (order other : List ℕ) (start : Start) (one two : List Step) (a b : Node)
     → other ≡ order → IsOrderedWay image order start.turns one a → IsOrderedWay image other start.turns two b → b ≡ a
@@ -41,14 +35,6 @@ one_place image order other start one two a b same first second =
     ((first.way).run) ((again.way).follow) ((first.way).follow) (again.turns_are ∙ sym first.turns_are) in
     same_node b a its.1
     (((again.way).had) ∙ (ap (λ es. had_after none_had es) its.0 ∙ sym ((first.way).had)))
-
--- as many posts were made where a node covers
-room_covered : (how : How) (plans : Plans) (node here : Node) → IsCovered plans (node ∷ []) here
-    → HasRoom how (hub_of node.cluster.journal) → HasRoom how (hub_of here.cluster.journal)
-room_covered at_once plans node here cov room =
-    (let same = covers_posts plans node here cov in omega (arith, same, room))
-room_covered plainly plans node here cov room = tt
-room_covered (by_contest contest) plans node here cov room = tt
 
 -- ---- the law
 
@@ -75,33 +61,31 @@ module _ (image : ImageParts) (order : List ℕ) (states turns least : ℕ) (tex
       let behind = (((told k start at).tells).listed).behind in
       one_place image order start.harts start steps behind.steps node behind.start (harts_are k start at) way behind.ordered
 
-  -- where it has each end of the runs that begin there
+  -- where it has each end of the runs that begin there, and of those that begin where it covers
   ends_at : (k : ℕ) (start : Start) (at : slice_get split.starts k ≡ Some start) (steps : List Step) (node here : Node)
       → IsOrderedWay image order start.turns steps node → IsCovered plans (node ∷ []) here → (more : List Step)
       (end : Cluster) → IsRun here.cluster more end → FollowPlans plans here.had more → IsEnd plans end
-      → HasAlike (nodes_of start (told k start at)) end
-  ends_at k start at steps node here way cov = λ more end run follow is.
+      → HasEnd order (nodes_of start (told k start at)) end
+  ends_at k start at steps node here way cov more end run follow is =
       let its = told k start at in
       let ns = nodes_of start its in
       let same = harts_are k start at in
       let listed = (its.tells).listed in
       let explored = (listed.behind).explored in
       let first : (listed.behind).start ≡ node = begins_at k start at steps node way in
-      let reach : Reaches explored.how order ns node =
-      subst (λ (n : Node). Reaches explored.how order ns n) first
-      (subst (λ (o : List ℕ). Reaches explored.how o ns (listed.behind).start) same explored.start_is) in
-      let posts = ap (λ (n : Node). hub_of n.cluster.journal) first in
-      let room : HasRoom explored.how (hub_of node.cluster.journal) =
-      subst (HasRoom explored.how) posts explored.room in
       let visited : (i : ℕ) (n : Node) → slice_get ns i ≡ Some n → i + (listed.found).left < length ns =
       λ i n there. omega (arith, slice_get_within ns i n there, its.whole) in
-      let none = (listed.behind).uncontested in
-      ends_by explored.how order ns here none (reaches_on explored.how order ns here node none cov reach)
-      (room_covered explored.how plans node here cov room)
+      covered_ends explored.how order ns node here cov
+      (subst (λ (n : Node). Reaches explored.how order ns n) first
+      (subst (λ (o : List ℕ). Reaches explored.how o ns (listed.behind).start) same explored.start_is))
+      (subst (λ (n : Node). MayBegin explored.how order n) first
+      (subst (λ (o : List ℕ). MayBegin explored.how o (listed.behind).start) same explored.begins))
+      (subst (HasRoom explored.how) (ap (λ (n : Node). hub_of n.cluster.journal) first) explored.room)
       (λ i r n there.
       subst (λ (o : List ℕ). IsClosedAt explored.how o ns n r) same
       (explored.closed i r n (visited i n there, there)))
-      (λ i n there. explored.few i n (visited i n there, there)) more end run follow is
+      (λ i n there. explored.few i n (visited i n there, there))
+      (λ i n there. explored.fit i n (visited i n there, there)) more end run follow is
 
   -- the moves of the nodes that aren't left were made, each where others lead
   closed_at : (i r : ℕ) (node : Node) → i + (split.found).left < length nodes → slice_get nodes i ≡ Some node
@@ -112,13 +96,12 @@ module _ (image : ImageParts) (order : List ℕ) (states turns least : ℕ) (tex
   module _ (end : Cluster) (is : IsEnd plans end) where
     -- an end among the nodes of a start is told
     told_end : (k : ℕ) (start : Start) (at : slice_get split.starts k ≡ Some start) (i : ℕ) (node : Node)
-        → slice_get (nodes_of start (told k start at)) i ≡ Some node → AreAlike end node.cluster
+        → slice_get (nodes_of start (told k start at)) i ≡ Some node → IsEnd plans node.cluster → AreAlikeEnds end node.cluster
         → HasEndAs image start (told k start at) end
-    told_end k start at i node there alike =
+    told_end k start at i node there ended alike =
         let its = told k start at in
         let tells = its.tells in
         let listed = tells.listed in
-        let ended = ends_law.ends plans end node.cluster alike is in
         let mine = subst (λ (o : List ℕ). IsEnd (by_order o) node.cluster) (sym (harts_are k start at)) ended in
         let place = ((listed.behind).explored).told i node
         (omega (arith, slice_get_within (nodes_of start its) i node there, its.whole), there) mine in
@@ -148,7 +131,7 @@ module _ (image : ImageParts) (order : List ℕ) (states turns least : ℕ) (tex
     by_start i node here there number cov more run follow =
         let v = split.reach i node there number in
         let f = ends_at v.0 v.1 v.3 v.2 node here v.4 cov more end run follow is in
-        (v.0, v.1, v.3, told_end v.0 v.1 v.3 f.0 f.1 f.2 f.3)
+        (v.0, v.1, v.3, told_end v.0 v.1 v.3 f.0 f.1 f.2 f.3 f.4)
 
     told_from : (steps : List Step) (c : Cluster) (had : Turns) → IsCovered plans nodes (node_of c had)
         → IsRun c steps end → FollowPlans plans had steps → Told

@@ -30,9 +30,8 @@ use Rattle.cl_explore.specs.Below.{IsOrder, in_slot}
 use Rattle.cl_moves.specs.Posts.{most_posts}
 use Rattle.cl_moves.specs.Standing.{IsWay, by_order, first_node, node_of}
 use Rattle.cl_explore.specs.Below.{Contest}
-use Rattle.cl_explore.specs.Below.{IsContestGraph}
-use Rattle.cl_explore.proofs.Below.{contest_law}
-use Rattle.cl_explore.proofs.Below.{never_ends_law}
+use Rattle.cl_explore.specs.Below.{IsContestGraph, IsGood}
+use Rattle.cl_explore.proofs.Below.{contest_law, good_law, never_ends_law}
 use Rattle.cl_explore.specs.How.{AreAlikeFor, HasRoom, How, IsFitFor, MayBegin, at_once, by_contest, plainly}
 use Rattle.cl_explore.specs.Covering.{AreJoined, HasLead, IsClosedAt, IsClosedFrom, Reaches}
 use Rattle.cl_explore.specs.Ends.{ExploredFrom, Findings, IsVisitedNode}
@@ -107,7 +106,7 @@ as_posts false cluster room = tt
 record Whole (how : How) (image : ImageParts) (order : List ℕ) (start : Node) (nodes : List Node) (leads : List Lead)
     : Type 0 where
   start_is : Reaches how order nodes start
-  begins : MayBegin how image order start
+  begins : MayBegin how order start
   room : HasRoom how (hub_of start.cluster.journal)
   follows : (i r : ℕ) (node : Node) → slice_get nodes i ≡ Some node → IsClosedFrom how order leads i nodes node r
   closed : (i r : ℕ) (node : Node) → slice_get nodes i ≡ Some node → IsClosedAt how order nodes node r
@@ -169,10 +168,13 @@ module _ (image : ImageParts) (order : List ℕ) (start : Node) (nodes : List No
 
   -- ---- what follows of it
 
-  -- the search begins at the loaded cluster
-  from_start : (contest : Contest) → Whole (by_contest contest) image order start nodes leads → (node : Node)
-      (steps : List Step) → IsWay plans (first_node image) steps node → IsWay plans start steps node
-  from_start contest whole node steps way = subst (λ (n : Node). IsWay plans n steps node) (sym (whole.begins).0) way
+  -- a node is good, since a run led there
+  good_at : (contest : Contest) → Whole (by_contest contest) image order start nodes leads → (i : ℕ) (node : Node)
+      → slice_get nodes i ≡ Some node → IsGood contest node.cluster
+  good_at contest whole i node at =
+      let way = whole.reached i node at in
+      let fit = whole.fit i node at in
+      good_law contest image node.cluster (way.0, (way.1).run) fit.waits fit.stands
 
   never_by : (how : How) → Whole how image order start nodes leads → (inside : ℕ → Bool) → IsTrap plans nodes them inside
       → (i : ℕ) (node : Node) → IsTrue (inside i) → slice_get nodes i ≡ Some node → NeverEnds plans node
@@ -181,20 +183,16 @@ module _ (image : ImageParts) (order : List ℕ) (start : Node) (nodes : List No
   never_by plainly whole inside trap =
       unending_law.never false plans most_posts nodes them inside (graph_by false whole) trap
   never_by (by_contest contest) whole inside trap = λ i node is at.
-      let way = whole.reached i node at in
-      let first = from_start contest whole node way.0 way.1 in
-      never_ends_law.never contest plans nodes them inside start (whole.begins).1 whole.start_is
-      (contest_graph contest whole) trap i node is at way.0 first.run first.follow
+      never_ends_law.never contest plans nodes them inside start whole.begins (contest_graph contest whole) trap i node is at
+      (good_at contest whole i node at)
 
   path_by : (how : How) → Whole how image order start nodes leads → (i j : ℕ) (from to : Node) → IsTrue (them i j)
       → slice_get nodes i ≡ Some from → slice_get nodes j ≡ Some to → MayEnd plans to → MayEnd plans from
   path_by at_once whole = unending_law.path true plans most_posts nodes them (graph_by true whole)
   path_by plainly whole = unending_law.path false plans most_posts nodes them (graph_by false whole)
   path_by (by_contest contest) whole = λ i j from to edge here there.
-      let way = whole.reached i from here in
-      let first = from_start contest whole from way.0 way.1 in
-      never_ends_law.path contest plans nodes them start (whole.begins).1 whole.start_is (contest_graph contest whole) i j from to
-      edge here there way.0 first.run first.follow
+      never_ends_law.path contest plans nodes them start whole.begins (contest_graph contest whole) i j from to edge here there
+      (good_at contest whole i from here)
 
   may_by : (how : How) → Whole how image order start nodes leads → HaveHarts plans start.cluster
       → ((i : ℕ) (node : Node) → slice_get nodes i ≡ Some node → MayEnd plans node) → AllMayEnd order start
@@ -205,7 +203,7 @@ module _ (image : ImageParts) (order : List ℕ) (start : Node) (nodes : List No
       unending_law.may false plans most_posts nodes them start (graph_by false whole)
       (as_reaches false order nodes start whole.start_is) (as_posts false start.cluster whole.room) harts
   may_by (by_contest contest) whole harts =
-      never_ends_law.may contest plans nodes them start (whole.begins).1 whole.start_is (contest_graph contest whole)
+      never_ends_law.may contest plans nodes them start whole.begins whole.start_is (contest_graph contest whole)
 
   company_by : (how : How) → Whole how image order start nodes leads → (steps : List Step) (end : Cluster)
       → IsRun start.cluster steps end → FollowPlans plans start.had steps → (ranks : List ℕ) → IsCompany ranks end
@@ -217,7 +215,7 @@ module _ (image : ImageParts) (order : List ℕ) (start : Node) (nodes : List No
       company_law.covered plans nodes start whole.start_is
       (record { each = λ i r node rank at has. whole.closed i r node at rank has })
   company_by (by_contest contest) whole =
-      contest_law.companies contest plans nodes start (whole.begins).1 whole.start_is
+      contest_law.companies contest plans nodes start whole.begins whole.start_is
       (record { closed = λ i r node rank at has. whole.closed i r node at rank has; fit = whole.fit })
 
 -- whether no mark of the node of this number is left out

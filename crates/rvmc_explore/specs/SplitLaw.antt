@@ -4,7 +4,7 @@ use Rattle.rv_image_types.specs.declared.images.ImageParts.{ImageParts}
 use Rattle.cl_machine.specs.Cluster.{Cluster, IsRun, loaded_cluster}
 use Rattle.cl_machine.specs.declared.steps.Step.{Step}
 use Rattle.cl_order_laws.specs.Closed.{FollowPlans, IsEnd, Node, none_had}
-use Rattle.cl_order_laws.specs.Laws.{AreAlike}
+use Rattle.cl_explore.specs.Ends.{AreAlikeEnds}
 use Rattle.cl_moves.specs.Standing.{by_order}
 use Rattle.rvmc_starts.specs.declared.parts.EndText.{EndText}
 use Rattle.rvmc_starts.specs.declared.starts.Start.{Start}
@@ -28,7 +28,7 @@ pub record HasEndAs (image : ImageParts) (start : Start) (told : IsToldWhole ima
   pub node : Node
   pub text : EndText
   pub there : slice_get (((((told.tells).listed).behind).explored).nodes) number ≡ Some node
-  pub alike : AreAlike end node.cluster
+  pub alike : AreAlikeEnds end node.cluster
   pub spelled : slice_get (((told.tells).part).ends) place ≡ Some text
   pub body : IsEndBody start.harts image (((told.tells).listed).found).kept number text.body
 

@@ -22,6 +22,7 @@ returns c = λ its image here stands.
     let state = c.args.standing.now.cluster in
     let kept = c.args.patterns.now.kept.items in
     all_fit image c.args.standing.now here stands kept (c.has_room.ensures c.if-not-has_room.false)
+    (c.waits_within.ensures c.if-not-waits_within.false)
     (below_all (λ r x. IsFitRank (search_of kept) here.cluster r (rank_of x)) state.ranks.items
     c.loop-rank.rank (c.loop-rank.invariant image here.cluster stands.stands)
     (omega (arith, c.loop-rank-test.false, c.len-count.ensures, state.ranks.ok.0)))

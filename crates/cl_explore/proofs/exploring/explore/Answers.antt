@@ -1,34 +1,7 @@
-use Rattle.cl_moves.proofs.Asking.{if_ok_on}
 use Rattle.cl_explore.specs.Ends.{findings}
-use Rattle.cl_explore.specs.How.{at_once, plainly}
-use Rattle.cl_explore.proofs.Finds.{explored_start}
-use Rattle.cl_lines.proofs.Behind.{told_behind}
+use Rattle.cl_explore.proofs.Finds.{explored_all}
 use Rattle.cl_explore.proofs.exploring.explore.Goals as goal
 
-pub returns-in-Some-2-clause-ends : goal.returns-in-Some-2-clause-ends
-returns-in-Some-2-clause-ends g c =
-    (explored_start at_once c.args.image.now c.args.course.now.order.now c.in_ok-standing.standing
-    (findings c.in-Some-2.found) c.in_ok-standing.ensures tt (rw c.in-Some-2.is at c.in_ok-found-2.ensures.ends)).0
-
-pub returns-clause-ends : goal.returns-clause-ends
-returns-clause-ends g c =
-    if_ok_on c.search_plainly.result
-    (λ found from. (explored_start plainly c.args.image.now c.args.course.now.order.now c.in_ok-again.again (findings found)
-    c.in_ok-again.ensures tt from).0) c.search_plainly.ensures.ends
-
-pub returns-in_err-found-2-clause-progress : goal.returns-in_err-found-2-clause-progress
-returns-in_err-found-2-clause-progress g c =
-    told_behind c.args.course.now.progress _ _ _ c.search_by_patterns.ensures.progress c.search_at_once.ensures.progress
-
-pub returns-in-Some-2-clause-progress : goal.returns-in-Some-2-clause-progress
-returns-in-Some-2-clause-progress g c =
-    told_behind c.args.course.now.progress _ _ _ c.search_by_patterns.ensures.progress c.search_at_once.ensures.progress
-
-pub returns-in_err-again-clause-progress : goal.returns-in_err-again-clause-progress
-returns-in_err-again-clause-progress g c =
-    told_behind c.args.course.now.progress _ _ _ c.search_by_patterns.ensures.progress c.search_at_once.ensures.progress
-
-pub returns-clause-progress : goal.returns-clause-progress
-returns-clause-progress g c =
-    told_behind c.args.course.now.progress _ _ _ c.search_by_patterns.ensures.progress
-    (told_behind c.args.course.now.progress _ _ _ c.search_at_once.ensures.progress c.search_plainly.ensures.progress)
+pub returns-in-Ok-clause-ends : goal.returns-in-Ok-clause-ends
+returns-in-Ok-clause-ends g c =
+    explored_all c.args.image.now c.args.course.now.order.now (findings c.in-Ok.found) c.in-Ok.ensures.ends
