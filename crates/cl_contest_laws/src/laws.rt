@@ -13,13 +13,13 @@ pub fn never_ends_law()
     ensures { NeverEndsLaw }
 {}
 
-/// Wherever a run led, what the argument for such a list needs holds, if receives of any source wait only where those may be
-/// made.
+/// Each cluster that a run leads to has what the proof about such lists needs, if only ranks that may receive from any source
+/// have such a receive waiting.
 pub fn good_law()
     ensures { GoodLaw }
 {}
 
-/// Wherever a run led of an image whose ranks have one hart each, such a list may begin.
+/// Such a list may begin at any cluster that a run leads to, if each rank of the image has one hart.
 pub fn starts_well_law()
     ensures { StartsWellLaw }
 {}

@@ -116,9 +116,9 @@ fn is_fit_rank(
     Ok(rests_if(state, rank, own, waits, &ask))
 }
 
-/// Whether all ranks may be let go here: every rank asks within the patterns, and did where a receive of any source waits; a
-/// rank whose call repeats until something is there already waits in vain; and there are too few messages for a send to be
-/// refused.
+/// Whether all ranks may be let go here. What each rank asks for has to be among the patterns, and so has each receive from
+/// any source that still waits. A rank whose call repeats until something is there must already wait in vain, and there must
+/// be too few messages for a send to be refused.
 ///
 /// Refusals: Memory.
 pub fn is_fit(standing: &Standing, patterns: &Patterns) -> Result<bool, MoveFault>

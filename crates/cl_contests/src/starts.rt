@@ -55,8 +55,8 @@ fn all_stand(ranks: &[RankState]) -> bool
     true
 }
 
-/// Whether a search may begin here, by patterns that have the receives of any source that wait here (`add_waits`): each first
-/// hart stands at the call that it is to make anew, if it is to make one anew.
+/// Whether a search may begin here, once `add_waits` has added the receives that wait. The first hart of each rank has to
+/// stand at the call that it will repeat, if it will repeat one.
 pub fn may_start(standing: &Standing) -> bool
     ensures { TellsStart standing.now result }
 {
