@@ -15,7 +15,7 @@ pub fn asking_law()
     ensures { AskingLaw }
 {}
 
-/// Wherever a run leads, ranks keep the numbers of no standard sends.
+/// Wherever a run leads, no rank keeps the number of a standard send.
 pub fn names_law()
     ensures { NamesLaw }
 {}
