@@ -177,6 +177,7 @@ fn ask_completing(standing: &Standing, manner: Manner, handle: u64) -> Ask
     }
 }
 
+/// What a right call asks: most ask the hub or one box, and the others nobody.
 fn ask_by(
     alloc: Global,
     standing: &Standing,
@@ -214,14 +215,6 @@ fn ask_by(
         Call::PrecvInit(partitioning) => Ok(ask_receiving(site, &partitioning)),
         Call::Pready { handle, part } => Ok(ask_ready(standing, handle, part)),
         Call::Parrived { handle, part } => Ok(ask_arrived(standing, handle, part)),
-        Call::Exit { .. }
-        | Call::Put { .. }
-        | Call::Rank { .. }
-        | Call::Size { .. }
-        | Call::Hart
-        | Call::SendInit(_)
-        | Call::RecvInit(_)
-        | Call::RequestFree { .. }
-        | Call::Unknown => Ok(Ask::Local),
+        _ => Ok(Ask::Local),
     }
 }
