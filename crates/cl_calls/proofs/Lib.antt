@@ -1,2 +1,4 @@
 pub mod Members
 pub mod Faults
+pub mod Tables
+pub mod Numbers

@@ -1,12 +1,14 @@
-//! The calls of a guest: how registers spell them, what each needs, and the checks that it meets in their order.
+//! The calls of a guest: their numbers and names, how registers spell them, what each needs, and the checks that it meets
+//! in their order.
 //!
-//! The meaning stands in specs/: what the image fixes of a rank, the rows of calls, what each needs, and the list of
-//! checks.
+//! The meaning stands in specs/: what the image fixes of a rank, the rows of calls and of their names, what each needs,
+//! and the list of checks.
 #![tactic(auto)]
 
 mod calls;
 mod checking;
 mod handles;
+mod names;
 mod needs;
 mod sites;
 
@@ -16,5 +18,9 @@ pub use calls::{
 };
 pub use checking::{Standing, fault, receiving_side, sending_side};
 pub use handles::{Handles, handles_at};
+pub use names::{
+    NUMBERS_END, RECV, SEND, SSEND, call_name, call_number, call_numbers_law, called_number,
+    is_call_number,
+};
 pub use needs::{Array, Named, Needs, Peer, Range, Region, Statuses, Tag};
 pub use sites::{Communicators, Site, position};

@@ -14,15 +14,12 @@ ghost use Rattle.cl_state.specs.Written.{written};
 ghost use Rattle.cl_rank.specs.QuickReceives.{Fits, IsRoomyReceive, Receives, got_at, waits_at};
 
 use crate::quick_sends::return_ok;
-use cl_calls::{ANY, NO_RANK, Peer, Receiving, Site, position};
+use cl_calls::{ANY, NO_RANK, Peer, RECV, Receiving, Site, position};
 use cl_state::{RankState, is_ecall, source, tag};
 use mp_types::{Reply, Request, Stamp};
 use rv_decode::Reg;
 use rv_hart::{Hart, Mode, Wait};
 use rv_memory::{RankMemory, SparePages};
-
-/// The number of a RECV.
-const RECV: u64 = 18;
 
 /// Whether a running hart is at an ECALL that is a RECV which wants no status.
 fn is_at_recv(hart: &Hart, memory: &RankMemory) -> bool

@@ -16,15 +16,12 @@ ghost use Rattle.cl_state.specs.Room.{rank_of};
 ghost use Rattle.cl_state.specs.Told.{returned};
 ghost use Rattle.cl_rank.specs.QuickSends.{IsShortSend, Sends, sent_at};
 
-use cl_calls::{NO_RANK, Peer, Sending, Site};
+use cl_calls::{NO_RANK, Peer, SEND, Sending, Site};
 use cl_state::{RankState, is_ecall};
 use mp_types::{Bytes, Request, SHORT_MAX, Stamp};
 use rv_decode::Reg;
 use rv_hart::{Hart, Mode};
 use rv_memory::RankMemory;
-
-/// The number of a SEND.
-const SEND: u64 = 16;
 
 /// Whether a running hart is at an ECALL that is a SEND.
 fn is_at_send(hart: &Hart, memory: &RankMemory) -> bool

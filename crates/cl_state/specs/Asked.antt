@@ -109,13 +109,8 @@ abbrev pub asked_completing : Manner → Option Awaited → Pending → Ask
 asked_completing m (Some a) pending = asked_awaited m a
 asked_completing m None pending = asked_pending pending
 
--- what a right call asks: nothing, a request to the hub, or a question to one box
+-- what a right call asks: a request to the hub, or a question to one box; any other call asks nobody
 abbrev pub asked_by : Site → Memory → Table → List Phase → Call → Ask
-asked_by site memory table phases (call.Exit value) = ask.Local
-asked_by site memory table phases (call.Put buffer count) = ask.Local
-asked_by site memory table phases (call.Rank comm) = ask.Local
-asked_by site memory table phases (call.Size comm) = ask.Local
-asked_by site memory table phases call.Hart = ask.Local
 asked_by site memory table phases (call.Send s) = asked_transfer memory true (send_of site false s)
 asked_by site memory table phases (call.Ssend s) = asked_transfer memory true (send_of site true s)
 asked_by site memory table phases (call.Recv r status) = asked_transfer memory true (receive_of site r)
@@ -132,10 +127,7 @@ asked_by site memory table phases (call.Improbe p) = asked_claim site p
 asked_by site memory table phases (call.Mprobe p) = asked_claim site p
 asked_by site memory table phases (call.Imrecv m) = asked_claimed false m
 asked_by site memory table phases (call.Mrecv m status) = asked_claimed true m
-asked_by site memory table phases (call.SendInit s) = ask.Local
-asked_by site memory table phases (call.RecvInit r) = ask.Local
 asked_by site memory table phases (call.Start handle) = asked_start memory (request_at table handle)
-asked_by site memory table phases (call.RequestFree handle) = ask.Local
 asked_by site memory table phases (call.Testall s) = asked_several memory table s
 asked_by site memory table phases (call.Waitall s) = asked_several memory table s
 asked_by site memory table phases (call.PsendInit t) = asked_sending site t
@@ -144,7 +136,7 @@ asked_by site memory table phases (call.Pready handle part) =
     asked_ready site memory part (sending_side (request_at table handle))
 asked_by site memory table phases (call.Parrived handle part) =
     asked_arrived phases part (receiving_side (request_at table handle))
-asked_by site memory table phases call.Unknown = ask.Local
+asked_by site memory table phases _ = ask.Local
 
 -- a poll asks whether a synchronous send is complete, or for the message of a receive
 abbrev pub asked_poll : Call → ℕ → Ask

@@ -19,7 +19,7 @@ use crate::partitions::{Awaited, ask_arrived, ask_ready, ask_receiving, ask_send
 use crate::pending::{Manner, Pending};
 use crate::several::ask_several;
 use crate::transfers::{ask, ask_claimed, receive, send, source, sync_send, tag};
-use cl_calls::{Call, NO_RANK, Probing, Site, Standing, fault};
+use cl_calls::{Call, NO_RANK, Probing, SSEND, Site, Standing, fault};
 use mp_request::OpenRequest;
 use mp_types::{Posts, Request};
 use rv_decode::Reg;
@@ -108,11 +108,8 @@ fn poll(call: &Call, post: u64) -> Ask
     }
 }
 
-/// The number of a synchronous send that waits, the only call that polls whether it is complete.
-const SSEND: u64 = 17;
-
 /// What a hart that waits for a post asks of it. A hart asks this again and again: so only its call's number is read,
-/// in a7, and not the whole call.
+/// in a7, and not the whole call. An SSEND is the only call that polls whether it is complete.
 #[tactic(auto, using(crate::proofs::Polled::polled_finished, crate::proofs::Polled::polled_collect))]
 pub(crate) fn polled(hart: &Hart, post: u64) -> Request
     ensures { asked_poll (call_named hart.now) post ≡ Hub result }
@@ -180,6 +177,7 @@ fn ask_completing(standing: &Standing, manner: Manner, handle: u64) -> Ask
     }
 }
 
+/// What a right call asks: most ask the hub or one box, and the others nobody.
 fn ask_by(
     alloc: Global,
     standing: &Standing,
@@ -217,14 +215,6 @@ fn ask_by(
         Call::PrecvInit(partitioning) => Ok(ask_receiving(site, &partitioning)),
         Call::Pready { handle, part } => Ok(ask_ready(standing, handle, part)),
         Call::Parrived { handle, part } => Ok(ask_arrived(standing, handle, part)),
-        Call::Exit { .. }
-        | Call::Put { .. }
-        | Call::Rank { .. }
-        | Call::Size { .. }
-        | Call::Hart
-        | Call::SendInit(_)
-        | Call::RecvInit(_)
-        | Call::RequestFree { .. }
-        | Call::Unknown => Ok(Ask::Local),
+        _ => Ok(Ask::Local),
     }
 }

@@ -1,0 +1,144 @@
+//! The numbers and the names of calls, as docs/CALLS.md lists them.
+
+ghost use Rattle.std.specs.Prelude.{◌≡◌, ◌<◌, IsTrue, MatchOption, None, Some, map};
+ghost use Rattle.cl_calls.specs.Calls.{argument};
+ghost use Rattle.cl_calls.specs.Names.{CallNumbersLaw, call_name as call_name_of, call_names, call_number as call_number_of};
+ghost use Rattle.cl_calls.specs.Names.{is_call_number as is_call_number_of, name_in as name_in_of, number_in as number_in_of};
+ghost use Rattle.cl_calls.specs.Names.{numbers_end, row_view};
+
+use rv_decode::Reg;
+use rv_hart::Hart;
+
+/// The number of a SEND.
+pub const SEND: u64 = 16;
+
+/// The number of an SSEND.
+pub const SSEND: u64 = 17;
+
+/// The number of a RECV.
+pub const RECV: u64 = 18;
+
+/// The numbers of all calls are below this one, which is one more than the greatest of them.
+pub const NUMBERS_END: u64 = 44;
+
+/// A call's number, and its name.
+struct CallName {
+    number: u64,
+    name: &'static str,
+}
+
+/// The table of names, one line a call: its number, which stands in a7, and its name.
+macro_rules! calls {
+    ($($number:literal $name:literal;)*) => {
+        [$(CallName { number: $number, name: $name }),*]
+    };
+}
+
+static CALLS: [CallName; 29] = calls! {
+    0 "EXIT";
+    1 "PUT";
+    2 "RANK";
+    3 "SIZE";
+    4 "HART";
+    16 "SEND";
+    17 "SSEND";
+    18 "RECV";
+    19 "ISEND";
+    20 "ISSEND";
+    21 "IRECV";
+    22 "TEST";
+    23 "WAIT";
+    24 "IPROBE";
+    25 "PROBE";
+    26 "IMPROBE";
+    27 "MPROBE";
+    28 "IMRECV";
+    29 "MRECV";
+    30 "SEND_INIT";
+    31 "RECV_INIT";
+    32 "START";
+    33 "REQUEST_FREE";
+    34 "TESTALL";
+    35 "WAITALL";
+    40 "PSEND_INIT";
+    41 "PRECV_INIT";
+    42 "PREADY";
+    43 "PARRIVED";
+};
+
+/// All calls. No other function names the table, since each that does takes long to prove.
+fn all_calls() -> &'static [CallName]
+    ensures { map row_view result.now ≡ call_names }
+{
+    &CALLS
+}
+
+/// The name in the row of a number.
+fn name_in(table: &'static [CallName], number: u64) -> Option<&'static str>
+    ensures { MatchOption result (name_in_of number (map row_view table.now) ≡ None)
+        (λ name. name_in_of number (map row_view table.now) ≡ Some name.now) }
+{
+    for row in table {
+        if row.number == number {
+            return Some(row.name);
+        }
+    }
+    None
+}
+
+/// The number in the row of a name.
+fn number_in(table: &[CallName], name: &[u8]) -> Option<u64>
+    ensures { result ≡ number_in_of name.now (map row_view table.now) }
+{
+    for row in table {
+        if row.name.as_bytes() == name {
+            return Some(row.number);
+        }
+    }
+    None
+}
+
+/// The name of the call of a number, as `SEND_INIT`; `no call` where the number is no call's.
+#[tactic(auto, unfolding(crate::specs::Names::call_name))]
+pub fn call_name(number: u64) -> &'static str
+    ensures { result.now ≡ call_name_of number }
+{
+    match name_in(all_calls(), number) {
+        Some(name) => name,
+        None => "no call",
+    }
+}
+
+/// Whether a number is a call's.
+#[tactic(auto, unfolding(crate::specs::Names::is_call_number), using(crate::proofs::Numbers::below_end))]
+pub fn is_call_number(number: u64) -> bool
+    ensures is { result ≡ is_call_number_of number }
+    ensures below { IsTrue result → number < numbers_end }
+{
+    match name_in(all_calls(), number) {
+        Some(_) => true,
+        None => false,
+    }
+}
+
+/// The number of the call of a name.
+#[tactic(auto, unfolding(crate::specs::Names::call_number))]
+pub fn call_number(name: &[u8]) -> Option<u64>
+    ensures { result ≡ call_number_of name.now }
+{
+    number_in(all_calls(), name)
+}
+
+/// The number that a hart's registers spell for a call, whether it is a call's or not.
+pub fn called_number(hart: &Hart) -> u64
+    ensures { result ≡ argument hart.now 7 }
+{
+    hart.get(Reg::new(17))
+}
+
+/// A law: the calls that registers spell and the calls that have names have the same numbers, one by one in order, and
+/// the greatest of them is the one just below NUMBERS_END. The function does nothing.
+#[tactic(auto, unfolding(crate::specs::Names::is_call_number))]
+pub fn call_numbers_law()
+    ensures { CallNumbersLaw }
+{}
