@@ -17,8 +17,8 @@ use Rattle.cl_rank.specs.declared.ranks.Rank.{Rank as Running}
 use Rattle.cl_rank.specs.declared.turning.Turn.{Turn}
 use Rattle.cl_rank.specs.Deeds.{Act, Suits, IsStamp, answer_of, kind_of, request_of}
 use Rattle.cl_rank.specs.Sides.{box_id_of}
-use Rattle.cl_rank.specs.RankSides.{AreChannelsOf, sides_in}
-use Rattle.cl_rank.specs.Steps.{IsTested}
+use Rattle.cl_sides.specs.Sides.{AreChannelsOf, sides_in}
+use Rattle.cl_sides.specs.Steps.{IsTested}
 use Rattle.cl_rank.specs.Tidings.{HasLooked, TestTells, Tidings}
 use Rattle.cl_rank.specs.Views.{AsksNobody, MayTurn}
 use Rattle.cl_rank.proofs.Looked.{freed_moved, missed_moved, never_all, never_unready}

@@ -27,13 +27,14 @@ use Rattle.cl_state.specs.Told.{told, told_row}
 use Rattle.cl_rank.specs.Deeds.{Act}
 use Rattle.cl_rank.specs.Fitting.{RequestsFit}
 use Rattle.cl_rank.specs.Sides.{ReceiverActs, SenderActs, is_place}
-use Rattle.cl_rank.specs.RankSides.{AreChannelsOf, AreSides, HasSender, KeyMoves, PhaseFits}
-use Rattle.cl_rank.specs.RankSides.{phase_of_sender, sender_key, sender_view, side_of, sides_in}
-use Rattle.cl_rank.specs.Steps.{IsReadied, MayReady, SenderAt, changed_side}
+use Rattle.cl_sides.specs.Sides.{AreChannelsOf, AreSides, HasSender, PhaseFits}
+use Rattle.cl_rank.specs.RankSides.{KeyMoves}
+use Rattle.cl_sides.specs.Sides.{phase_of_sender, sender_key, sender_view, side_of, sides_in}
+use Rattle.cl_sides.specs.Steps.{IsReadied, MayReady, SenderAt, changed_side}
 use Rattle.cl_rank.proofs.Answered.{ready_becomes}
 use Rattle.cl_rank.proofs.Kept.{kept, owned, sender_fits}
 use Rattle.cl_rank.proofs.Keys.{receivers_apart, senders_move}
-use Rattle.cl_rank.proofs.Lists.{same_changed, same_side}
+use Rattle.cl_sides.proofs.Lists.{same_changed, same_side}
 use Rattle.cl_rank.proofs.Moves.{Moved, SameShape, fit_kept, fits_at, own_told, row_at, sending_shapes, shapes_stay, started_at, sides_told, told_by}
 use Rattle.cl_rank.proofs.Rows.{CanReady, IsReadying, RowFits}
 use Rattle.cl_rank.proofs.Tables.{Keeps}

@@ -13,10 +13,11 @@ use Rattle.part_phase.specs.declared.phases.Phase.TheVariants.{Apart, Sending, R
 use Rattle.part_phase.specs.Limits.{box_bytes}
 use Rattle.part_phase.specs.Phases.{changed_at, on_receiving, on_sending}
 use Rattle.rv_image_types.specs.declared.images.ImageVersion.{ImageVersion}
-use Rattle.cl_rank.specs.RankSides.{AreChannelsOf, AreSides, HasReceiver, HasSender, PhaseFits, phase_of_receiver}
-use Rattle.cl_rank.specs.RankSides.{phase_of_sender, side_of, sides_in}
-use Rattle.cl_rank.specs.Steps.{changed_side}
-use Rattle.cl_rank.proofs.Lists.{at_changed, beside, is_equal, phase_beside, phase_changed}
+use Rattle.cl_sides.specs.Sides.{AreChannelsOf, AreSides, HasReceiver, HasSender, PhaseFits, phase_of_receiver}
+use Rattle.cl_sides.specs.Sides.{phase_of_sender, side_of, sides_in}
+use Rattle.cl_sides.specs.Steps.{changed_side}
+use Rattle.cl_sides.proofs.Lists.{at_changed, beside, is_equal}
+use Rattle.cl_rank.proofs.Lists.{phase_beside, phase_changed}
 
 -- of this link, and of any other
 pub each_link : (P : ℕ → Type 0) (link : ℕ) → P link → ((l : ℕ) → l ≢ link → P l) → (l : ℕ) → P l

@@ -9,12 +9,14 @@ use Rattle.part_channel.specs.Sending.{SendView, modified}
 use Rattle.rv_image_types.specs.declared.images.ImageVersion.{ImageVersion}
 use Rattle.cl_rank.specs.Deeds.{Act}
 use Rattle.cl_rank.specs.Sides.{ReceiverActs, SenderActs, is_place, box_id_of}
-use Rattle.cl_rank.specs.RankSides.{HasKey, KeyMoves, KeysMove, Sides}
-use Rattle.cl_rank.specs.RankSides.{receiver_key, receiver_of, receiver_view, sender_key, sender_of, sender_view}
-use Rattle.cl_rank.specs.RankSides.{side_of}
-use Rattle.cl_rank.specs.Steps.{changed_side}
+use Rattle.cl_sides.specs.Sides.{Sides}
+use Rattle.cl_rank.specs.RankSides.{HasKey, KeyMoves, KeysMove}
+use Rattle.cl_sides.specs.Sides.{receiver_key, receiver_of, receiver_view, sender_key, sender_of, sender_view}
+use Rattle.cl_sides.specs.Sides.{side_of}
+use Rattle.cl_sides.specs.Steps.{changed_side}
 use Rattle.cl_rank.proofs.Kept.{each_link}
-use Rattle.cl_rank.proofs.Lists.{at_changed, at_modified, beside, beside_modified, differs, itself}
+use Rattle.cl_sides.proofs.Lists.{at_changed, beside, differs, itself}
+use Rattle.cl_rank.proofs.Lists.{at_modified, beside_modified}
 
 stays : {K : Type 0} (Acts : K → K → Type 0) (o : Option K) → KeyMoves false Acts o o
 stays Acts None = tt

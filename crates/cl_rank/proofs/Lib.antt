@@ -6,7 +6,6 @@ pub mod Boxes
 pub mod Called
 pub mod Clocks
 pub mod Ends
-pub mod Found
 pub mod HartSteps
 pub mod Kept
 pub mod Keys
@@ -20,7 +19,6 @@ pub mod PlainTurns
 pub mod Replied
 pub mod Rows
 pub mod Stayed
-pub mod Stepped
 pub mod Tables
 pub mod Taken
 pub mod Turned

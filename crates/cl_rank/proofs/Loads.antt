@@ -12,7 +12,7 @@ use Rattle.part_phase.specs.declared.phases.Phase.{Phase}
 use Rattle.cl_calls.specs.Checks.{sending_side}
 use Rattle.cl_state.specs.Rank.{Rank, loaded}
 use Rattle.cl_rank.specs.Fitting.{RequestsFit}
-use Rattle.cl_rank.specs.RankSides.{AreNewSides, AreSides, sides_in}
+use Rattle.cl_sides.specs.Sides.{AreNewSides, AreSides, sides_in}
 
 -- a key that knows nothing is past at any clock
 new_past : (clock : ℕ) (boxes : List BoxId) → All (λ (key : Sender). key.view.front ≤ clock) (map new_sender boxes)

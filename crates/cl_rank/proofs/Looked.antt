@@ -27,15 +27,16 @@ use Rattle.cl_state.specs.Told.{told}
 use Rattle.cl_rank.specs.Deeds.{Act}
 use Rattle.cl_rank.specs.Fitting.{RequestsFit}
 use Rattle.cl_rank.specs.Sides.{ReceiverActs, SenderActs, is_place, box_id_of}
-use Rattle.cl_rank.specs.RankSides.{AreChannelsOf, AreSides, HasKey, KeyMoves}
-use Rattle.cl_rank.specs.RankSides.{phase_of_sender, receiver_key, sender_key, sender_of, sender_view, side_of}
-use Rattle.cl_rank.specs.RankSides.{sides_in}
-use Rattle.cl_rank.specs.Steps.{IsTested, MayTest, changed_side}
+use Rattle.cl_sides.specs.Sides.{AreChannelsOf, AreSides}
+use Rattle.cl_rank.specs.RankSides.{HasKey, KeyMoves}
+use Rattle.cl_sides.specs.Sides.{phase_of_sender, receiver_key, sender_key, sender_of, sender_view, side_of}
+use Rattle.cl_sides.specs.Sides.{sides_in}
+use Rattle.cl_sides.specs.Steps.{IsTested, MayTest, changed_side}
 use Rattle.cl_rank.proofs.Answered.{freed_becomes, unfreed_stays}
 use Rattle.cl_rank.proofs.Boxes.{key_at, sender_at, sender_there}
 use Rattle.cl_rank.proofs.Kept.{kept, owned, sender_fits}
 use Rattle.cl_rank.proofs.Keys.{receivers_apart, senders_move}
-use Rattle.cl_rank.proofs.Lists.{same_changed, same_side}
+use Rattle.cl_sides.proofs.Lists.{same_changed, same_side}
 use Rattle.cl_rank.proofs.Moves.{Moved, SameShape, fit_kept, fits_at, own_told, row_at, sending_shapes, shapes_stay}
 use Rattle.cl_rank.proofs.Moves.{sides_told, started_at, told_by}
 use Rattle.cl_rank.proofs.Rows.{CanFree, FreesAt, RowFits}

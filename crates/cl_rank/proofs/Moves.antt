@@ -27,10 +27,11 @@ use Rattle.cl_state.specs.Told.{told, told_row}
 use Rattle.cl_rank.specs.Deeds.{Act, Suits, request_of}
 use Rattle.cl_rank.specs.Fitting.{RequestsFit}
 use Rattle.cl_rank.specs.Follows.{started_link}
-use Rattle.cl_rank.specs.RankSides.{AreChannelsOf, AreSides, KeysMove, PhaseFits, Sides, phase_of_receiver}
-use Rattle.cl_rank.specs.RankSides.{phase_of_sender, receiver_key, sender_key, side_of, sides_in}
+use Rattle.cl_sides.specs.Sides.{AreChannelsOf, AreSides, PhaseFits, Sides, phase_of_receiver}
+use Rattle.cl_rank.specs.RankSides.{KeysMove}
+use Rattle.cl_sides.specs.Sides.{phase_of_sender, receiver_key, sender_key, side_of, sides_in}
 use Rattle.cl_rank.specs.Sides.{box_id_of}
-use Rattle.cl_rank.specs.Steps.{begun_at, begun_receiver, begun_sender, changed_side}
+use Rattle.cl_sides.specs.Steps.{begun_at, begun_receiver, begun_sender, changed_side}
 use Rattle.cl_rank.proofs.Answered.{alone_becomes, begun_at as begun_phases}
 use Rattle.cl_rank.proofs.Kept.{kept, owned, past_later}
 use Rattle.cl_rank.proofs.Keys.{keys_stay, receivers_stay, senders_stay, somewhere}

@@ -10,10 +10,10 @@ use Rattle.part_channel.specs.Channels.{ChannelView, receiver_box, sender_box}
 use Rattle.part_channel.specs.Receiving.{RecvView}
 use Rattle.part_channel.specs.Sending.{SendView}
 use Rattle.part_phase.specs.Limits.{box_words}
-use Rattle.cl_rank.specs.RankSides.{AreChannelsOf, HasReceiver, HasSender, receiver_key, receiver_view, sender_key}
-use Rattle.cl_rank.specs.RankSides.{sender_view, side_of, sides_in}
-use Rattle.cl_rank.specs.Steps.{IsPlace}
-use Rattle.cl_rank.proofs.Lists.{placed}
+use Rattle.cl_sides.specs.Sides.{AreChannelsOf, HasReceiver, HasSender, receiver_key, receiver_view, sender_key}
+use Rattle.cl_sides.specs.Sides.{sender_view, side_of, sides_in}
+use Rattle.cl_sides.specs.Steps.{IsPlace}
+use Rattle.cl_sides.proofs.Lists.{placed}
 
 module _ {A : Type 0} where
   none_some : (s : A) → None ≡ Some s → ⊥

@@ -13,8 +13,8 @@ use Rattle.cl_state.specs.Told.{told}
 use Rattle.cl_rank.specs.declared.ranks.Rank.{Rank as Running}
 use Rattle.cl_rank.specs.Deeds.{Act}
 use Rattle.cl_rank.specs.Fitting.{RequestsFit}
-use Rattle.cl_rank.specs.RankSides.{AreSides, sides_in}
-use Rattle.cl_rank.specs.Steps.{begun_at, begun_receiver, begun_sender}
+use Rattle.cl_sides.specs.Sides.{AreSides, sides_in}
+use Rattle.cl_sides.specs.Steps.{begun_at, begun_receiver, begun_sender}
 use Rattle.cl_rank.proofs.Moves.{Moved, alone_moved, fits_at, row_at, started_at}
 use Rattle.cl_rank.proofs.Rows.{RowFits}
 use Rattle.cl_rank.proofs.Went.{Went}

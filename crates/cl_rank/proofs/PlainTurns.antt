@@ -20,7 +20,7 @@ use Rattle.cl_rank.specs.declared.ranks.Rank.{Rank as Running}
 use Rattle.cl_rank.specs.Deeds.{event_of}
 use Rattle.cl_rank.specs.Fitting.{RequestsFit}
 use Rattle.cl_rank.specs.Plains.{IsPlainStep, IsPlainTurn, Repeats, plain_deed}
-use Rattle.cl_rank.specs.RankSides.{AreChannelsOf, AreSides, sides_in}
+use Rattle.cl_sides.specs.Sides.{AreChannelsOf, AreSides, sides_in}
 use Rattle.cl_rank.specs.Turning.{RankView}
 use Rattle.cl_rank.specs.Views.{place_in, view_of}
 use Rattle.cl_rank.proofs.Plain.{plain_moved}

@@ -50,7 +50,7 @@ use Rattle.cl_state.specs.Written.{written}
 use Rattle.cl_state.proofs.Pages.{enough_head, enough_missing, none_enough, one_enough}
 use Rattle.cl_rank.specs.Deeds.{Act}
 use Rattle.cl_rank.specs.Fitting.{RequestsFit}
-use Rattle.cl_rank.specs.RankSides.{AreSides, sides_in}
+use Rattle.cl_sides.specs.Sides.{AreSides, sides_in}
 use Rattle.cl_rank.specs.declared.ranks.Rank.{Rank as Running}
 use Rattle.cl_rank.specs.QuickReceives.{Fits, IsRoomyReceive, MayReceive, Receives, got_at, waits_at}
 use Rattle.cl_rank.proofs.Keys.{keys_stay}

@@ -44,7 +44,7 @@ use Rattle.cl_state.specs.TurnRoom.{HasRoom}
 use Rattle.cl_state.specs.Writes.{IsEnough, writes_by, writes_in}
 use Rattle.cl_rank.specs.Deeds.{Act}
 use Rattle.cl_rank.specs.Fitting.{RequestsFit}
-use Rattle.cl_rank.specs.RankSides.{AreSides, sides_in}
+use Rattle.cl_sides.specs.Sides.{AreSides, sides_in}
 use Rattle.cl_rank.specs.declared.ranks.Rank.{Rank as Running}
 use Rattle.cl_rank.specs.QuickSends.{IsShortSend, MaySend, Sends, sent_at}
 use Rattle.cl_rank.proofs.Keys.{keys_stay}

@@ -36,9 +36,9 @@ use Rattle.cl_trace.specs.declared.events.Kind.TheVariants as kind
 use Rattle.cl_rank.specs.Deeds.{Act}
 use Rattle.cl_rank.specs.Fitting.{RequestsFit}
 use Rattle.cl_rank.specs.Follows.{named_link}
-use Rattle.cl_rank.specs.RankSides.{AreSides, PhaseFits, phase_of_receiver, phase_of_sender, side_of, sides_in}
-use Rattle.cl_rank.specs.Steps.{InLimits, ReceivingMay, SendingMay, changed_side, cut_receiver, followed_receiver}
-use Rattle.cl_rank.specs.Steps.{followed_sender, gets, shaped_receiver}
+use Rattle.cl_sides.specs.Sides.{AreSides, PhaseFits, phase_of_receiver, phase_of_sender, side_of, sides_in}
+use Rattle.cl_sides.specs.Steps.{InLimits, ReceivingMay, SendingMay, changed_side, cut_receiver, followed_receiver}
+use Rattle.cl_sides.specs.Steps.{followed_sender, gets, shaped_receiver}
 use Rattle.cl_rank.proofs.Answered.{Becomes, GotCut, GotReceiving, GotSending, Replied, Stays, reply_becomes}
 use Rattle.cl_rank.proofs.Boxes.{box_limits}
 use Rattle.cl_rank.proofs.Kept.{each_link, kept, owned, past_later}

@@ -7,7 +7,7 @@ use Rattle.cl_trace.specs.declared.events.Event.{Event}
 use Rattle.cl_trace.specs.Rising.{last_stamp}
 use Rattle.cl_rank.specs.declared.ranks.Rank.{Rank as Running}
 use Rattle.cl_rank.specs.Fitting.{RequestsFit}
-use Rattle.cl_rank.specs.RankSides.{AreSides, sides_in}
+use Rattle.cl_sides.specs.Sides.{AreSides, sides_in}
 use Rattle.cl_rank.proofs.Went.{Keeps}
 
 pub same_keeps : (r : Running) (new : RankState) → rank_of new ≡ rank_of r.state

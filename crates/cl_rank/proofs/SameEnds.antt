@@ -10,7 +10,8 @@ use Rattle.cl_rank.specs.declared.stops.Stop.{Stop}
 use Rattle.cl_rank.specs.declared.stops.Stop.TheVariants as stop
 use mathlib.Core.Logic.{inl, inr}
 use Rattle.cl_rank.specs.Deeds.{Act, RankMoves, event_of, request_of}
-use Rattle.cl_rank.specs.RankSides.{AreChannelsOf, KeysMove}
+use Rattle.cl_sides.specs.Sides.{AreChannelsOf}
+use Rattle.cl_rank.specs.RankSides.{KeysMove}
 use Rattle.cl_rank.specs.Turning.{DeskRule, IsTurn, RankView, StopHolds, TellsAct}
 use Rattle.cl_rank.specs.Turns.{IsActive}
 use Rattle.cl_rank.specs.Views.{IsOver, IsQuietTurn, TurnEnds, view_of}

@@ -31,7 +31,7 @@ use Rattle.cl_state.specs.Rank.{Rank}
 use Rattle.cl_state.specs.Told.{asking_again, told, told_in, told_row, with_part}
 use Rattle.cl_rank.specs.Deeds.{Act}
 use Rattle.cl_rank.specs.Fitting.{RequestsFit}
-use Rattle.cl_rank.specs.RankSides.{AreSides, sides_in}
+use Rattle.cl_sides.specs.Sides.{AreSides, sides_in}
 use Rattle.cl_rank.specs.declared.ranks.Rank.{Rank as Running}
 use Rattle.cl_rank.specs.declared.turning.Turn.{Turn}
 use Rattle.cl_rank.specs.Roomy.{AsksAnew, IsAgain, IsRoomy, awaited_posts, is_anew}

@@ -42,17 +42,18 @@ use Rattle.cl_rank.specs.declared.turning.Turn.{Turn}
 use Rattle.cl_rank.specs.Deeds.{Act}
 use Rattle.cl_rank.specs.Fitting.{RequestsFit}
 use Rattle.cl_rank.specs.Sides.{ReceiverActs, SenderActs, is_place, box_id_of}
-use Rattle.cl_rank.specs.RankSides.{AreChannelsOf, AreSides, HasKey, HasReceiver, KeyMoves, PhaseFits}
-use Rattle.cl_rank.specs.RankSides.{phase_of_receiver, receiver_key, receiver_of}
-use Rattle.cl_rank.specs.RankSides.{receiver_view, sender_key, side_of, sides_in}
-use Rattle.cl_rank.specs.Steps.{IsTaken, MayTake, ReceiverAt, changed_side}
+use Rattle.cl_sides.specs.Sides.{AreChannelsOf, AreSides, HasReceiver, PhaseFits}
+use Rattle.cl_rank.specs.RankSides.{HasKey, KeyMoves}
+use Rattle.cl_sides.specs.Sides.{phase_of_receiver, receiver_key, receiver_of}
+use Rattle.cl_sides.specs.Sides.{receiver_view, sender_key, side_of, sides_in}
+use Rattle.cl_sides.specs.Steps.{IsTaken, MayTake, ReceiverAt, changed_side}
 use Rattle.cl_rank.proofs.Answered.{taken_becomes, untaken_stays}
 use Rattle.cl_rank.specs.Tidings.{TakeTells, Tidings}
 use Rattle.cl_rank.proofs.Asks.{BoxTurn}
 use Rattle.cl_rank.proofs.Boxes.{box_limits, length_first}
 use Rattle.cl_rank.proofs.Kept.{kept, owned, past_later, receiver_fits}
 use Rattle.cl_rank.proofs.Keys.{receivers_move, senders_apart}
-use Rattle.cl_rank.proofs.Lists.{same_changed, same_side}
+use Rattle.cl_sides.proofs.Lists.{same_changed, same_side}
 use Rattle.cl_rank.proofs.Moves.{Moved, SameShape, fit_kept, fits_at, own_told, receiving_shapes, row_at, shapes_stay}
 use Rattle.cl_rank.proofs.Moves.{sides_told, started_at, told_by}
 use Rattle.cl_rank.proofs.Rows.{CanTake, RowFits, TakesAt}

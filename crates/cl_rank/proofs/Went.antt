@@ -24,9 +24,9 @@ use Rattle.cl_rank.specs.Deeds.{Act, Suits, Deed, IsStamp, answer_of, kind_of, r
 use Rattle.cl_rank.specs.Follows.{started_link}
 use Rattle.cl_rank.specs.Sides.{box_id_of}
 use Rattle.cl_rank.specs.Fitting.{RequestsFit}
-use Rattle.cl_rank.specs.RankSides.{AreChannelsOf, AreSides, Sides, sides_in}
+use Rattle.cl_sides.specs.Sides.{AreChannelsOf, AreSides, Sides, sides_in}
 use Rattle.cl_rank.specs.Roomy.{IsRoomy}
-use Rattle.cl_rank.specs.Steps.{IsReadied, MayReady, begun_at, begun_receiver, begun_sender}
+use Rattle.cl_sides.specs.Steps.{IsReadied, MayReady, begun_at, begun_receiver, begun_sender}
 use Rattle.cl_rank.specs.Views.{AsksNobody, MayTurn, TurnLeaves, place_in}
 use Rattle.cl_rank.proofs.Alone.{stamp_above}
 use Rattle.cl_rank.proofs.Boxes.{long_enough, may_ready, ready_moved}

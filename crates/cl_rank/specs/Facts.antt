@@ -10,7 +10,7 @@ use Rattle.part_channel.specs.Sending.{SendView}
 use Rattle.part_phase.specs.declared.phases.Phase.{Phase}
 use Rattle.part_phase.specs.declared.phases.Phase.TheVariants.{Apart, Sending, Receiving}
 use Rattle.rv_image_types.specs.declared.images.ImageVersion.{ImageVersion}
-use Rattle.cl_rank.specs.RankSides.{AreSides, PhaseFits, Sides}
+use Rattle.cl_sides.specs.Sides.{AreSides, PhaseFits, Sides}
 
 mark_set : IsSet Bool
 mark_set = hedberg Bool-discrete

@@ -5,7 +5,6 @@ pub mod RankSides
 pub mod Facts
 pub mod Roomy
 pub mod Anew
-pub mod Steps
 pub mod Tidings
 pub mod Fitting
 pub mod Follows

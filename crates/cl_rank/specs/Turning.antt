@@ -11,7 +11,8 @@ use Rattle.cl_state.specs.declared.asking.Ask.{Ask}
 use Rattle.cl_state.specs.Rank.{Rank}
 use Rattle.cl_state.specs.Asked.{asked}
 use Rattle.cl_rank.specs.Deeds.{Act, Deed, event_of, RankMoves}
-use Rattle.cl_rank.specs.RankSides.{Sides, KeysMove}
+use Rattle.cl_sides.specs.Sides.{Sides}
+use Rattle.cl_rank.specs.RankSides.{KeysMove}
 use Rattle.cl_rank.specs.Sides.{box_id_of}
 use Rattle.cl_rank.specs.declared.stops.Stop.{Stop}
 use Rattle.cl_rank.specs.declared.stops.Stop.TheVariants as stop

@@ -17,12 +17,13 @@ use Rattle.cl_state.specs.declared.asking.Answer.TheVariants as answer
 use Rattle.cl_state.specs.declared.state.RankState.{RankState}
 use Rattle.cl_trace.specs.declared.events.Kind.{Kind}
 use Rattle.cl_rank.specs.declared.ranks.Rank.{Rank}
-use Rattle.cl_rank.specs.declared.sides.BoxId.{BoxId}
+use Rattle.cl_sides.specs.declared.steps.BoxId.{BoxId}
 use Rattle.cl_rank.specs.declared.stops.Stop.{Stop}
 use Rattle.cl_rank.specs.declared.turning.Turn.{Turn}
 use Rattle.cl_rank.specs.Deeds.{Act, Deed, event_of, RankMoves, Suits, answer_of, kind_of, request_of}
 use Rattle.cl_rank.specs.Sides.{box_id_of}
-use Rattle.cl_rank.specs.RankSides.{AreChannelsOf, KeysMove, sides_in}
+use Rattle.cl_sides.specs.Sides.{AreChannelsOf, sides_in}
+use Rattle.cl_rank.specs.RankSides.{KeysMove}
 use Rattle.cl_rank.specs.Turning.{DeskRule, IsTurn, RankView, StopHolds}
 use Rattle.cl_rank.specs.Turns.{IsActive}
 

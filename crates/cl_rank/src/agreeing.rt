@@ -5,11 +5,11 @@ ghost use Rattle.part_box.specs.Rule.{GateRule};
 ghost use Rattle.part_box.specs.declared.view.Receiving.{Receiving};
 ghost use Rattle.part_box.specs.declared.view.Sending.{Sending};
 ghost use Rattle.part_phase.specs.Limits.{box_words};
-ghost use Rattle.cl_rank.specs.RankSides.{AreChannelsOf, receiver_of, sender_of};
+ghost use Rattle.cl_sides.specs.Sides.{AreChannelsOf, receiver_of, sender_of};
 ghost use Rattle.cl_rank.specs.Views.{view_of};
 
 use crate::ranks::Rank;
-use crate::sides::{BoxId, find};
+use cl_sides::{BoxId, find};
 use part_channel::Channel;
 
 /// Tells who has both ranks of a box on one thread what its two keys know of each other. Nothing changes.

@@ -1,7 +1,7 @@
 //! A rank of the cluster and its turns: each asks, is answered, and is recorded as one event.
 //!
-//! The meaning stands in specs/: deeds, which are events with all that they met, the rank alone, the sides that a rank
-//! has of its links with what a deed makes of their keys, and turns.
+//! The meaning stands in specs/: deeds, which are events with all that they met, the rank alone, what a deed makes of
+//! the keys of its rank's sides, and turns.
 #![tactic(auto)]
 
 mod agreeing;
@@ -11,16 +11,15 @@ mod plains;
 mod quick_receives;
 mod quick_sends;
 mod ranks;
-mod sides;
 mod stops;
 mod turning;
 
 pub use agreeing::agree;
 pub use cl_calls::{ANY, Call, Communicators, NO_RANK, Needs, Peer, Range, Site, Tag, position};
+pub use cl_sides::BoxId;
 pub use cl_state::{Answer, Ask, Doing, RankState};
 pub use cl_trace::{Bare, Cursor, Event, Kind, Seen, Trace};
 pub use desks::{Desk, LockedDesk, PlainDesk, Replied};
 pub use ranks::Rank;
-pub use sides::BoxId;
 pub use stops::Stop;
 pub use turning::{step_plain, step_running};

@@ -6,16 +6,16 @@ ghost use Rattle.cl_state.specs.Room.{rank_of};
 ghost use Rattle.cl_trace.specs.Rising.{last_stamp};
 ghost use Rattle.cl_rank.specs.Facts.{are_sides_fact};
 ghost use Rattle.cl_rank.specs.Fitting.{RequestsFit};
-ghost use Rattle.cl_rank.specs.RankSides.{AreChannelsOf, AreNewSides, AreSides, sides_in};
+ghost use Rattle.cl_sides.specs.Sides.{AreChannelsOf, AreNewSides, AreSides, sides_in};
 ghost use Rattle.cl_rank.specs.Roomy.{IsRoomy, is_roomy_fact};
 ghost use Rattle.cl_rank.specs.Turns.{IsActive};
 ghost use Rattle.cl_rank.specs.Turning.{Answered, IsCause, IsTurn, StopHolds};
 
 use crate::desks::{Desk, PlainDesk};
-use crate::sides::BoxId;
 use crate::stops::Stop;
 use crate::turning::{all_stopped, step_plain};
 use cl_journal::{CLOCK_MAX, Hub};
+use cl_sides::BoxId;
 use cl_state::RankState;
 use cl_trace::Trace;
 use mp_types::Posts;

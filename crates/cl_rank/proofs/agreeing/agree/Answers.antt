@@ -1,8 +1,8 @@
 use Rattle.std.proofs.Common.{◌<◌, subst, sym}
-use Rattle.cl_rank.proofs.Found.{not_missing, place_within}
+use Rattle.cl_sides.proofs.Found.{not_missing, place_within}
 use Rattle.cl_rank.proofs.Pairs.{agreed_so, at_side, channel_there, part_there, receiver_boxes, receiver_here}
 use Rattle.cl_rank.proofs.Pairs.{sender_boxes, sender_here}
-use Rattle.cl_rank.proofs.Stepped.{at_found}
+use Rattle.cl_sides.proofs.Stepped.{at_found}
 use Rattle.cl_rank.proofs.agreeing.agree.Goals as goal
 
 pub unreachable-requires : goal.unreachable-requires

@@ -6,7 +6,7 @@ use Rattle.cl_trace.specs.Rising.{last_stamp}
 use Rattle.cl_state.specs.declared.state.RankState.{RankState}
 use Rattle.cl_state.specs.Room.{rank_of}
 use Rattle.cl_rank.specs.Plains.{IsPlainTurn, Repeats}
-use Rattle.cl_rank.specs.RankSides.{AreChannelsOf, sides_in}
+use Rattle.cl_sides.specs.Sides.{AreChannelsOf, sides_in}
 use Rattle.cl_rank.specs.Views.{place_in, view_of}
 use Rattle.cl_rank.proofs.PlainTurns.{kept_by, no_turns, plain_keeps, seen, turns_first}
 use Rattle.cl_rank.proofs.Same.{as_it_was}

@@ -5,7 +5,7 @@ use Rattle.cl_state.specs.declared.state.RankState.{RankState}
 use Rattle.cl_trace.specs.declared.events.Event.{Event}
 use Rattle.cl_trace.specs.declared.events.Kind.TheVariants as kind
 use Rattle.cl_trace.specs.Rising.{last_stamp}
-use Rattle.cl_rank.specs.RankSides.{AreChannelsOf, sides_in}
+use Rattle.cl_sides.specs.Sides.{AreChannelsOf, sides_in}
 use Rattle.cl_rank.specs.Turning.{IsCause}
 use Rattle.cl_rank.specs.Views.{place_in}
 use Rattle.cl_rank.proofs.Ends.{turn_ends}

@@ -1,6 +1,6 @@
 use Rattle.std.proofs.Common.{ap, refl, subst, sym, ◌∙◌}
 use Rattle.cl_state.specs.Rank.{Rank as RankAlone}
-use Rattle.cl_rank.specs.RankSides.{AreChannelsOf}
+use Rattle.cl_sides.specs.Sides.{AreChannelsOf}
 use Rattle.cl_rank.specs.Views.{view_of}
 use Rattle.cl_rank.proofs.Asks.{asks_nothing_plain, asks_nothing_local, asks_nothing_held, asks_nothing_idle}
 use Rattle.cl_rank.proofs.Ends.{is_active}

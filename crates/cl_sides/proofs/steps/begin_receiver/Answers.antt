@@ -1,7 +1,7 @@
 use Rattle.std.proofs.Common.{◌<◌, subst, sym}
-use Rattle.cl_rank.specs.Steps.{begun_receiver}
-use Rattle.cl_rank.proofs.Found.{changed_there, none_there, place_within}
-use Rattle.cl_rank.proofs.sides.begin_receiver.Goals as goal
+use Rattle.cl_sides.specs.Steps.{begun_receiver}
+use Rattle.cl_sides.proofs.Found.{changed_there, none_there, place_within}
+use Rattle.cl_sides.proofs.steps.begin_receiver.Goals as goal
 
 pub index_mut-requires : goal.index_mut-requires
 index_mut-requires c =

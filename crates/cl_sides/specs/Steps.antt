@@ -14,7 +14,7 @@ use Rattle.part_channel.specs.Words.{bytes_of_words}
 use Rattle.part_channel.specs.BoxWords.{words_of}
 use Rattle.part_phase.specs.declared.receiving.RecvPhase.{RecvPhase}
 use Rattle.part_phase.specs.declared.sending.SendPhase.{SendPhase}
-use Rattle.cl_rank.specs.RankSides.{side_of}
+use Rattle.cl_sides.specs.Sides.{side_of}
 
 -- the first side of this link is changed
 abbrev pub changed_side : {S : Type 0} → ℕ → (S → S) → List (ℕ × S) → List (ℕ × S)

@@ -1,8 +1,8 @@
 use Rattle.std.proofs.Common.{◌<◌, subst, sym}
 use Rattle.std.proofs.lemmas.Option.{slice_get_within}
-use Rattle.cl_rank.proofs.Found.{not_missing, place_within}
-use Rattle.cl_rank.proofs.Stepped.{at_found, tested_so}
-use Rattle.cl_rank.proofs.sides.test.Goals as goal
+use Rattle.cl_sides.proofs.Found.{not_missing, place_within}
+use Rattle.cl_sides.proofs.Stepped.{at_found, tested_so}
+use Rattle.cl_sides.proofs.steps.test.Goals as goal
 
 pub returns : goal.returns
 returns c = record {

@@ -1,5 +1,5 @@
-use Rattle.cl_rank.proofs.Lists.{found, not_found}
-use Rattle.cl_rank.proofs.sides.find.Goals as goal
+use Rattle.cl_sides.proofs.Lists.{found, not_found}
+use Rattle.cl_sides.proofs.steps.find.Goals as goal
 
 pub returns-then-sides-i : goal.returns-then-sides-i
 returns-then-sides-i g c =

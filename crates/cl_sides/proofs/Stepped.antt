@@ -9,10 +9,10 @@ use Rattle.part_channel.specs.declared.progress.Take.{Take}
 use Rattle.part_channel.specs.Receiving.{RecvView, shown_take, take_stamp, took}
 use Rattle.part_channel.specs.Sending.{IsPast, IsTold, SendView, ready_refusal, readied, test_progress, tested}
 use Rattle.part_channel.specs.BoxWords.{words_of}
-use Rattle.cl_rank.specs.Steps.{IsPlace, IsReadied, IsTaken, IsTested, MayReady, MayTake, MayTest}
-use Rattle.cl_rank.specs.Steps.{changed_side, keeps_receiving, keeps_sending}
+use Rattle.cl_sides.specs.Steps.{IsPlace, IsReadied, IsTaken, IsTested, MayReady, MayTake, MayTest}
+use Rattle.cl_sides.specs.Steps.{changed_side, keeps_receiving, keeps_sending}
 use Rattle.part_channel.proofs.Words.{bytes_back}
-use Rattle.cl_rank.proofs.Lists.{placed, same_side}
+use Rattle.cl_sides.proofs.Lists.{placed, same_side}
 
 same_channel : (channels : List ChannelView) (link : ℕ) (x y : ChannelView) → x ≡ get_or channels link x
     → slice_get channels link ≡ Some y → x ≡ y

@@ -1,8 +1,8 @@
 use Rattle.std.proofs.Common.{◌<◌, subst, sym}
 use Rattle.std.specs.Prelude.{IfSome}
-use Rattle.cl_rank.specs.Steps.{SendingMay, followed_sender}
-use Rattle.cl_rank.proofs.Found.{changed_there, none_there, place_within, side_there}
-use Rattle.cl_rank.proofs.sides.follow_sender.Goals as goal
+use Rattle.cl_sides.specs.Steps.{SendingMay, followed_sender}
+use Rattle.cl_sides.proofs.Found.{changed_there, none_there, place_within, side_there}
+use Rattle.cl_sides.proofs.steps.follow_sender.Goals as goal
 
 pub index_mut-requires : goal.index_mut-requires
 index_mut-requires c =

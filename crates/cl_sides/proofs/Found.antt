@@ -1,10 +1,10 @@
 -- What the code knows of a side, and of its channel, once it looked for it.
 use Rattle.std.proofs.Common.{◌≡◌, ◌<◌, ◌∙◌, ℕ, List, None, Option, Some, ap, get_or, length, set, subst, sym}
 use Rattle.std.proofs.lemmas.Option.{slice_get_within}
-use Rattle.cl_rank.specs.RankSides.{side_of}
-use Rattle.cl_rank.specs.Steps.{IsPlace, changed_side}
-use Rattle.cl_rank.proofs.Lists.{Placed, left_alone, placed}
-use Rattle.cl_rank.proofs.Stepped.{at_found}
+use Rattle.cl_sides.specs.Sides.{side_of}
+use Rattle.cl_sides.specs.Steps.{IsPlace, changed_side}
+use Rattle.cl_sides.proofs.Lists.{Placed, left_alone, placed}
+use Rattle.cl_sides.proofs.Stepped.{at_found}
 
 module _ {S : Type 0} (link : ℕ) (slice items : List (ℕ × S)) (found : Option ℕ) (same : slice ≡ items)
     (place : IsPlace link slice found) where

@@ -1,11 +1,11 @@
-//! The sides that a rank has of its links: each makes the steps on its boxes, and follows the rank's phase.
+//! What a rank does with its sides: it finds one by its link, makes a step on one of its boxes, and lets it follow
+//! the phase.
 
 ghost use Rattle.std.specs.Prelude.{◌≡◌, ◌<◌, ◌+◌, ◌-◌, ◌^◌, IfSome};
-ghost use Rattle.cl_rank.specs.Steps.{IsPlace, IsReadied, IsTaken, IsTested, MayReady, MayTake, MayTest, changed_side};
-ghost use Rattle.cl_rank.specs.RankSides.{side_of};
-ghost use Rattle.cl_rank.specs.Steps.{ReceivingMay, SendingMay, begun_at, begun_receiver, begun_sender};
-ghost use Rattle.cl_rank.specs.Steps.{followed_receiver};
-ghost use Rattle.cl_rank.specs.Steps.{followed_sender};
+ghost use Rattle.cl_sides.specs.Sides.{side_of};
+ghost use Rattle.cl_sides.specs.Steps.{IsPlace, IsReadied, IsTaken, IsTested, MayReady, MayTake, MayTest, changed_side};
+ghost use Rattle.cl_sides.specs.Steps.{ReceivingMay, SendingMay, begun_at, begun_receiver, begun_sender};
+ghost use Rattle.cl_sides.specs.Steps.{followed_receiver, followed_sender};
 
 use mp_types::Stamp;
 use part_channel::{Channel, Progress, RecvSide, SendSide, Take};
@@ -18,8 +18,8 @@ pub struct BoxId {
     pub part: u8,
 }
 
-/// Where the side of a link stands.
-pub(crate) fn find<S>(sides: &[(u8, S)], link: u8) -> Option<usize>
+/// Finds where the side of a link stands among these, or `None` if none of them is of the link.
+pub fn find<S>(sides: &[(u8, S)], link: u8) -> Option<usize>
     ensures { IsPlace link sides.now result }
 {
     for i in 0..sides.len() {
@@ -30,8 +30,10 @@ pub(crate) fn find<S>(sides: &[(u8, S)], link: u8) -> Option<usize>
     None
 }
 
-/// Makes a partition ready with these bytes, and answers the stamp.
-pub(crate) fn make_ready(
+/// Makes a partition ready with these bytes, and returns the stamp of that: one above the rank's clock.
+///
+/// Other sides stay as they are. It may be called where the link has a side here that doesn't refuse the partition.
+pub fn make_ready(
     sends: &mut Vec<(u8, SendSide)>,
     channels: &[Channel],
     place: BoxId,
@@ -56,8 +58,10 @@ pub(crate) fn make_ready(
     }
 }
 
-/// Looks whether the lowest partition of a link that isn't freed was taken. It was made ready.
-pub(crate) fn test(
+/// Looks whether the lowest partition of a link that isn't freed was taken.
+///
+/// Other sides stay as they are. It may be called where that partition was made ready.
+pub fn test(
     sends: &mut Vec<(u8, SendSide)>,
     channels: &[Channel],
     link: u8,
@@ -76,8 +80,11 @@ pub(crate) fn test(
     side.test(&channels[link as usize], clock)
 }
 
-/// Takes what lies in a box, if a thing is seen there.
-pub(crate) fn take(
+/// Takes what lies in a box, if a thing is seen there. Other sides stay as they are.
+///
+/// It may be called where the link has a side here that doesn't refuse the box. If none is seen, the answer is
+/// `Take::Missed`, and the side keeps only what it saw.
+pub fn take(
     recvs: &mut Vec<(u8, RecvSide)>,
     channels: &[Channel],
     place: BoxId,
@@ -130,12 +137,9 @@ fn begin_receiver(recvs: &mut Vec<(u8, RecvSide)>, link: u8)
     }
 }
 
-/// A phase begins on a link, if it does.
-pub(crate) fn begin(
-    sends: &mut Vec<(u8, SendSide)>,
-    recvs: &mut Vec<(u8, RecvSide)>,
-    link: Option<u8>,
-)
+/// Begins a phase on both sides of a link, so far as they are here and none is going on there. With `None` nothing
+/// changes.
+pub fn begin(sends: &mut Vec<(u8, SendSide)>, recvs: &mut Vec<(u8, RecvSide)>, link: Option<u8>)
     ensures sends { sends.new.items ≡ begun_at link begun_sender sends.old.items }
     ensures recvs { recvs.new.items ≡ begun_at link begun_receiver recvs.old.items }
 {
@@ -154,13 +158,9 @@ fn follow_sending(side: &mut SendSide, was: SendPhase, now: SendPhase)
     }
 }
 
-/// The sender's side of a link gets the shape that its phase got, if it got one.
-pub(crate) fn follow_sender(
-    sends: &mut Vec<(u8, SendSide)>,
-    link: u8,
-    was: SendPhase,
-    now: SendPhase,
-)
+/// Gives the sender's side of a link, if it is here, the shape that its phase got, if it got one. Other sides stay as
+/// they are.
+pub fn follow_sender(sends: &mut Vec<(u8, SendSide)>, link: u8, was: SendPhase, now: SendPhase)
     requires { IfSome (side_of link sends.old.items) (SendingMay was now) }
     ensures { sends.new.items ≡ changed_side link (followed_sender was now) sends.old.items }
 {
@@ -180,13 +180,9 @@ fn follow_receiving(side: &mut RecvSide, was: RecvPhase, now: RecvPhase)
     }
 }
 
-/// The receiver's side of a link gets the shape or the cut that its phase got, if it got one.
-pub(crate) fn follow_receiver(
-    recvs: &mut Vec<(u8, RecvSide)>,
-    link: u8,
-    was: RecvPhase,
-    now: RecvPhase,
-)
+/// Gives the receiver's side of a link, if it is here, the shape or the cut that its phase got, if it got one. Other
+/// sides stay as they are.
+pub fn follow_receiver(recvs: &mut Vec<(u8, RecvSide)>, link: u8, was: RecvPhase, now: RecvPhase)
     requires { IfSome (side_of link recvs.old.items) (ReceivingMay was now) }
     ensures { recvs.new.items ≡ changed_side link (followed_receiver was now) recvs.old.items }
 {

@@ -1,8 +1,8 @@
 use Rattle.std.proofs.Common.{◌<◌, arith, subst, sym}
 use Rattle.std.proofs.lemmas.Option.{slice_get_within}
-use Rattle.cl_rank.proofs.Found.{not_missing, place_within}
-use Rattle.cl_rank.proofs.Stepped.{at_found, never_refused, readied_so}
-use Rattle.cl_rank.proofs.sides.make_ready.Goals as goal
+use Rattle.cl_sides.proofs.Found.{not_missing, place_within}
+use Rattle.cl_sides.proofs.Stepped.{at_found, never_refused, readied_so}
+use Rattle.cl_sides.proofs.steps.make_ready.Goals as goal
 
 pub unreachable-requires-in-Err : goal.unreachable-requires-in-Err
 unreachable-requires-in-Err c =
