@@ -32,16 +32,6 @@ fn mode(own: &RankState, number: u8) -> Mode
     own.harts[usize::from(number)].mode()
 }
 
-/// Whether a hart in this mode is stopped for good.
-fn is_stopped(mode: Mode) -> bool
-    ensures { (result ≡ true) ↔ IsStopped mode }
-{
-    match mode {
-        Mode::Ended(_) | Mode::Trapped(_, _) => true,
-        Mode::Running | Mode::Waiting(_) => false,
-    }
-}
-
 /// Whether a hart in this mode waits.
 pub(crate) fn is_waiting(mode: Mode) -> bool
     ensures { (result ≡ true) ↔ IsWaiting mode }
@@ -111,7 +101,7 @@ pub(crate) fn is_held(
     ensures memory { OnErr result (0 < carried (asked (rank_of own.now) number)) }
 {
     let now = mode(own, number);
-    if is_stopped(now) {
+    if now.is_stopped() {
         return Ok(true);
     }
     if !is_waiting(now) {

@@ -127,12 +127,12 @@ pub fn is_end(state: &ClusterState, order: &[u8]) -> Result<bool, AllocError>
 }
 
 /// Whether this hart of the rank is stopped, or isn't there.
-fn is_stopped(own: &RankState, hart: u8) -> bool
+fn is_stopped_or_missing(own: &RankState, hart: u8) -> bool
     ensures { (result ≡ true) ↔ IsStopped (mode_of (rank_of own.now) hart) }
 {
     match own.harts.get(usize::from(hart)) {
         None => true,
-        Some(hart) => matches!(hart.mode(), Mode::Ended(_) | Mode::Trapped(_, _)),
+        Some(hart) => hart.mode().is_stopped(),
     }
 }
 
@@ -142,7 +142,7 @@ pub fn is_done(own: &RankState, order: &[u8]) -> bool
     ensures { (result ≡ true) ↔ IsDone (in_slot order.now) (rank_of own.now) }
 {
     for hart in order {
-        if !is_stopped(own, *hart) {
+        if !is_stopped_or_missing(own, *hart) {
             return false;
         }
     }

@@ -2,7 +2,7 @@
 use Rattle.std.proofs.Common.{◌≡◌, ◌+◌, ℕ, zero, suc, List, [], ◌∷◌, refl, sym, ap, ◌∙◌, subst, arith}
 use Rattle.std.specs.Prelude.{Some, Bool, true, false, ◌&&◌, slice_get, slice_set}
 use Rattle.std.specs.List.{list_all}
-use Rattle.rv_hart.specs.State.{State}
+use Rattle.rv_hart.specs.State.{State, is_stopped}
 use Rattle.rv_hart.specs.Stepped.{stepped}
 use Rattle.rv_hart.specs.declared.state.Mode.TheVariants.{Running}
 use Rattle.rv_memory.specs.Access.{word_at}
@@ -10,7 +10,6 @@ use Rattle.rv_memory.specs.Memory.{Memory}
 use Rattle.cl_state.specs.Asked.{is_ecall}
 use Rattle.cl_state.specs.Rank.{Rank}
 use Rattle.cl_rank.specs.Plains.{IsHartStep, IsPlainStep, Repeats}
-use Rattle.cl_rank.specs.Turns.{is_stopped}
 use Rattle.cl_rank.proofs.Called.{asks_plain, told_plain}
 
 both_hold : (a b : Bool) → (a && b) ≡ true → (a ≡ true) × (b ≡ true)

@@ -1,15 +1,8 @@
 -- Harts that take turns, and those that are stopped.
 use Rattle.std.specs.Prelude.{◌≡◌, ℕ, ◌<◌, ◌+◌, ◌^◌, Bool, true, false}
 use Rattle.std.specs.List.{list_all}
-use Rattle.rv_hart.specs.declared.state.Mode.{Mode}
-use Rattle.rv_hart.specs.declared.state.Mode.TheVariants.{Running, Waiting, Ended, Trapped}
+use Rattle.rv_hart.specs.State.{is_stopped}
 use Rattle.cl_state.specs.Rank.{Rank}
-
-abbrev pub is_stopped : Mode → Bool
-is_stopped Running = false
-is_stopped (Waiting w) = false
-is_stopped (Ended code) = true
-is_stopped (Trapped cause pc) = true
 
 abbrev pub all_stopped : Rank → Bool
 all_stopped rank = list_all (λ hart. is_stopped hart.mode) rank.harts

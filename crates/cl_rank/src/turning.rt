@@ -23,7 +23,7 @@ ghost use Rattle.cl_rank.specs.Roomy.{IsAgain, is_anew as is_anew_in};
 ghost use Rattle.cl_rank.specs.Tidings.{HasLooked, TakeTells, TestTells};
 ghost use Rattle.cl_rank.specs.Turns.{AllStopped, IsActive};
 ghost use Rattle.cl_rank.specs.Turning.{StopHolds};
-ghost use Rattle.cl_rank.specs.Turns.{all_stopped as all_stopped_of, is_stopped as is_stopped_of};
+ghost use Rattle.cl_rank.specs.Turns.{all_stopped as all_stopped_of};
 ghost use Rattle.cl_rank.specs.Views.{AsksNobody, HasTurn, IsHubTurn, IsOver, IsQuietTurn, MayTurn, MayWait, Stays, TurnEnds};
 ghost use Rattle.cl_trace.specs.declared.events.Kind.TheVariants.{Hub};
 ghost use Rattle.cl_trace.specs.Rising.{last_stamp};
@@ -96,22 +96,11 @@ pub fn step_plain(state: &mut RankState, hart: u8, stamp: Stamp) -> bool
     true
 }
 
-fn is_stopped(hart: &Hart) -> bool
-    ensures { result ≡ is_stopped_of hart.now.mode }
-{
-    match hart.mode() {
-        Mode::Running => false,
-        Mode::Waiting(_) => false,
-        Mode::Ended(_) => true,
-        Mode::Trapped(_, _) => true,
-    }
-}
-
 pub(crate) fn all_stopped(state: &RankState) -> bool
     ensures { result ≡ all_stopped_of (rank_of state.now) }
 {
     for hart in state.harts.iter() {
-        if !is_stopped(hart) {
+        if !hart.mode().is_stopped() {
             return false;
         }
     }

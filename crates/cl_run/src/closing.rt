@@ -1,30 +1,19 @@
 //! Seats at their ends.
 
 ghost use Rattle.std.specs.Prelude.{◌≡◌};
-ghost use Rattle.cl_rank.specs.Turns.{all_stopped, is_stopped};
+ghost use Rattle.cl_rank.specs.Turns.{all_stopped};
 ghost use Rattle.cl_record.specs.Seats.{station};
 ghost use Rattle.cl_run.specs.Driver.{last_stop, told_stop};
 ghost use Rattle.cl_state.specs.Room.{rank_of};
 
 use cl_rank::{RankState, Stop};
 use cl_record::{Done, Seat};
-use rv_hart::{Hart, Mode};
 
-/// Whether a hart is stopped for good.
-fn is_stopped(hart: &Hart) -> bool
-    ensures { result ≡ is_stopped hart.now.mode }
-{
-    match hart.mode() {
-        Mode::Running | Mode::Waiting(_) => false,
-        Mode::Ended(_) | Mode::Trapped(_, _) => true,
-    }
-}
-
-/// Whether all harts of a rank are.
+/// Whether all harts of a rank are stopped for good.
 fn all_stopped(state: &RankState) -> bool
     ensures { result ≡ all_stopped (rank_of state.now) }
 {
-    state.harts.iter().all(|hart| is_stopped(hart))
+    state.harts.iter().all(|hart| hart.mode().is_stopped())
 }
 
 /// Why a rank stops that is told to.

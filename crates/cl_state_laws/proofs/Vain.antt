@@ -1,8 +1,9 @@
 -- A turn in vain changes nothing of its rank but the clock.
 use Rattle.std.proofs.Common.{◌≡◌, ◌∙◌, ℕ, refl, ap, subst, sym, Bool, true, false, List, [], ◌∷◌, Option, Some, None}
-use Rattle.std.specs.Prelude.{◌==◌, set, if◌then◌else◌}
+use Rattle.std.specs.Prelude.{◌==◌, ◌↔◌, T, set, if◌then◌else◌}
+use Rattle.std.proofs.lemmas.Bool.{false≢true}
 use Rattle.std.proofs.lemmas.List.{set-get_or}
-use Rattle.rv_hart.specs.State.{State, in_mode}
+use Rattle.rv_hart.specs.State.{State, in_mode, is_stopped}
 use Rattle.rv_hart.specs.declared.state.Mode.{Mode}
 use Rattle.rv_hart.specs.declared.state.Mode.TheVariants.{Waiting, Ended, Trapped}
 use Rattle.rv_hart.specs.declared.state.Wait.{Wait}
@@ -52,6 +53,14 @@ use Rattle.cl_state_laws.proofs.Misses.{missed_in_vain, no_look_all, no_look_if,
 use Rattle.cl_state_laws.proofs.Replies.{IsPartKept, row_kept, turn_waits}
 
 -- ---- the hart
+
+test_tells : (test : Bool) → (test ≡ true) ↔ T test
+test_tells true = (λ yes. tt, λ is. refl)
+test_tells false = (λ no. absurd (false≢true no), λ no. absurd no)
+
+-- what the test of a mode says of its hart
+pub tells_stopped : (test : Bool) (mode : Mode) → test ≡ is_stopped mode → (test ≡ true) ↔ IsStopped mode
+tells_stopped test mode same = subst (λ b. (b ≡ true) ↔ IsStopped mode) (sym same) (test_tells (is_stopped mode))
 
 waiting_on : (mode : Mode) → IsWaiting mode → (wait : Wait) × (mode ≡ Waiting wait)
 waiting_on (Waiting wait) is = (wait, refl)

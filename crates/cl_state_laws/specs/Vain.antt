@@ -1,7 +1,8 @@
 -- Turns in vain: of a hart that waits and is told that nothing is there, and of one that is stopped.
-use Rattle.std.specs.Prelude.{◌≡◌, ℕ, Bool, true, false}
+use Rattle.std.specs.Prelude.{◌≡◌, ℕ, Bool, true, false, T}
+use Rattle.rv_hart.specs.State.{is_stopped}
 use Rattle.rv_hart.specs.declared.state.Mode.{Mode}
-use Rattle.rv_hart.specs.declared.state.Mode.TheVariants.{Waiting, Ended, Trapped}
+use Rattle.rv_hart.specs.declared.state.Mode.TheVariants.{Waiting}
 use Rattle.cl_calls.specs.declared.calls.Call.TheVariants as call
 use Rattle.cl_state.specs.declared.asking.Doing.{Doing}
 use Rattle.cl_state.specs.declared.asking.Doing.TheVariants.{Go, Poll}
@@ -13,9 +14,7 @@ mode_of rank hart = (part_of rank hart).hart.mode
 
 -- the hart is stopped for good
 abbrev pub IsStopped : Mode → Type 0
-IsStopped (Ended code) = Unit {0}
-IsStopped (Trapped cause pc) = Unit {0}
-IsStopped _ = ⊥
+IsStopped mode = T (is_stopped mode)
 
 abbrev pub IsWaiting : Mode → Type 0
 IsWaiting (Waiting wait) = Unit {0}

@@ -1,7 +1,7 @@
 -- The registers, the pc and the mode of a hart (RISC-V Unprivileged ISA 20191213, 2.1 and 5.1).
-use Rattle.std.specs.Prelude.{ℕ, ◌-◌, ◌*◌, ◌==◌, if◌then◌else◌, List, replicate, slice_index, slice_set}
+use Rattle.std.specs.Prelude.{ℕ, ◌-◌, ◌*◌, ◌==◌, if◌then◌else◌, Bool, true, false, List, replicate, slice_index, slice_set}
 use Rattle.rv_hart.specs.declared.state.Mode.{Mode}
-use Rattle.rv_hart.specs.declared.state.Mode.TheVariants.{Running}
+use Rattle.rv_hart.specs.declared.state.Mode.TheVariants.{Running, Waiting, Ended, Trapped}
 
 pub record State : Type 0 where
   pub regs : List ℕ
@@ -24,6 +24,13 @@ at_pc state pc = record state { pc = pc }
 -- the state in another mode
 abbrev pub in_mode : State → Mode → State
 in_mode state mode = record state { mode = mode }
+
+-- a hart in this mode is stopped for good: it ended or trapped (docs/MACHINE.md, A hart; RISC-V has no word for this)
+abbrev pub is_stopped : Mode → Bool
+is_stopped Running = false
+is_stopped (Waiting wait) = false
+is_stopped (Ended code) = true
+is_stopped (Trapped cause pc) = true
 
 -- a running hart whose registers are all 0
 abbrev pub fresh : ℕ → State

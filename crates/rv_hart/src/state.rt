@@ -27,6 +27,22 @@ pub enum Mode {
     Trapped(Cause, u64),
 }
 
+impl Mode {
+    ghost use Rattle.std.specs.Prelude.{◌≡◌};
+    ghost use Rattle.rv_hart.specs.State.{is_stopped};
+
+    /// Whether a hart in this mode is stopped for good: it ended or trapped.
+    #[inline(always)]
+    pub fn is_stopped(self) -> bool
+        ensures { result ≡ is_stopped self }
+    {
+        match self {
+            Mode::Ended(_) | Mode::Trapped(_, _) => true,
+            Mode::Running | Mode::Waiting(_) => false,
+        }
+    }
+}
+
 /// What a step was.
 #[derive(Clone, Copy, Drop)]
 pub enum Did {

@@ -1,7 +1,7 @@
 -- The laws of motions.
 use Rattle.std.specs.Prelude.{ℕ, ◌≡◌, ◌<◌, ◌≤◌, ◌⊎◌, List, length, Option, Some, None, true}
 use Rattle.rv_image_types.specs.declared.images.ImageParts.{ImageParts}
-use Rattle.rv_hart.specs.State.{State}
+use Rattle.rv_hart.specs.State.{State, is_stopped}
 use Rattle.cl_state.specs.Rank.{Rank}
 use Rattle.cl_machine.specs.Cluster.{Cluster}
 use Rattle.cl_machine.specs.declared.steps.Step.{Step}
@@ -12,7 +12,7 @@ use Rattle.rvmc_motions.specs.declared.marks.Mark.{Mark}
 use Rattle.rvmc_motions.specs.declared.marks.Mover.{Mover}
 use Rattle.rvmc_motions.specs.Motions.{GoesBackwards, GoesForwards, IsFirstBehind, IsLastBefore}
 use Rattle.rvmc_motions.specs.declared.turns.Whose.{Whose}
-use Rattle.rvmc_motions.specs.Turns.{IsHistory, backward_stop, broken_at, forward_stop, is_live, is_stopped, stepped}
+use Rattle.rvmc_motions.specs.Turns.{IsHistory, backward_stop, broken_at, forward_stop, is_live, stepped}
 
 -- whatever ends a motion, it leads to one place, and ends there for one cause
 pub record OnePlaceLaw : Type 0 where

@@ -2,7 +2,7 @@
 use Rattle.std.specs.Prelude.{ℕ, ◌≡◌, ◌+◌, ◌-◌, Bool, true, false, not, List, slice_get, Option, Some, None}
 use Rattle.std.specs.Prelude.{◌==◌, ◌&&◌, if◌then◌else◌, option_map}
 use Rattle.std.specs.Option.{option_or}
-use Rattle.rv_hart.specs.State.{State}
+use Rattle.rv_hart.specs.State.{State, is_stopped}
 use Rattle.rv_hart.specs.declared.state.Mode.{Mode}
 use Rattle.rv_hart.specs.declared.state.Mode.TheVariants.{Running, Waiting, Ended, Trapped}
 use Rattle.rv_image_types.specs.declared.images.ImageParts.{ImageParts}
@@ -34,14 +34,7 @@ own_turn ranks (Some e) = if covers ranks e.rank then Some (record { rank = e.ra
 abbrev pub at_turn : Whose → Option Stop → Option Halt
 at_turn turn stop = option_map (λ told. record { stop = told; rank = turn.rank; hart = turn.hart }) stop
 
--- a hart that is stopped idles in its turns
-abbrev pub is_stopped : Mode → Bool
-is_stopped Running = false
-is_stopped (Waiting wait) = false
-is_stopped (Ended code) = true
-is_stopped (Trapped cause pc) = true
-
--- the hart is there, and isn't stopped
+-- the hart is there, and isn't stopped: a hart that is idles in its turns
 abbrev pub is_live : Option State → Bool
 is_live None = false
 is_live (Some hart) = not (is_stopped hart.mode)

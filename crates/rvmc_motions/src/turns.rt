@@ -3,7 +3,7 @@
 ghost use Rattle.std.specs.Prelude.{◌≡◌, ◌<◌, IfErr, IfOk, OnOk, Some, length, option_map, slice_get};
 ghost use Rattle.cl_debug.specs.declared.faults.DebugFault.TheVariants as faults;
 ghost use Rattle.cl_state.specs.Room.{rank_of};
-ghost use Rattle.rvmc_motions.specs.Turns.{at_turn, break_at, goes_on, is_live, is_meant, is_stopped, is_waiting, own_turn};
+ghost use Rattle.rvmc_motions.specs.Turns.{at_turn, break_at, goes_on, is_live, is_meant, is_waiting, own_turn};
 ghost use Rattle.rvmc_motions.specs.Turns.{step_stop, stepped, stop_behind};
 ghost use Rattle.rvmc_motions.specs.Walking.{TellsNext, TellsTurn, one_on};
 
@@ -50,22 +50,12 @@ fn at_turn(turn: Whose, stop: Option<Stop>) -> Option<Halt>
     })
 }
 
-/// Whether the hart idles in its turns.
-fn is_stopped(mode: Mode) -> bool
-    ensures { result ≡ is_stopped mode }
-{
-    match mode {
-        Mode::Ended(_) | Mode::Trapped(_, _) => true,
-        Mode::Running | Mode::Waiting(_) => false,
-    }
-}
-
 /// Whether the hart is there, and isn't stopped.
 fn is_live(hart: Option<&Hart>) -> bool
     ensures { result ≡ is_live (option_map (λ hart. hart.now) hart.entry) }
 {
     match hart {
-        Some(hart) => !is_stopped(hart.mode()),
+        Some(hart) => !hart.mode().is_stopped(),
         None => false,
     }
 }
@@ -75,7 +65,7 @@ fn break_at(marks: &[Mark], turn: Whose, owner: &RankState) -> Option<Halt>
     ensures { result ≡ break_at marks.now turn (Some (rank_of owner.now)) }
 {
     let hart = owner.harts.get(usize::from(turn.hart))?;
-    if is_stopped(hart.mode()) {
+    if hart.mode().is_stopped() {
         return None;
     }
     at_turn(turn, broken(turn.rank, hart.pc(), marks))

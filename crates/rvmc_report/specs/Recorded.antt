@@ -1,11 +1,10 @@
 -- What the report of a record tells: that of the state to which its steps lead.
 use Rattle.std.specs.Prelude.{ℕ, ◌≡◌, Bool, List, [], ◌∷◌, length, map, if◌then◌else◌, Option, None, Some}
 use Rattle.std.specs.List.{enumerate_from, list_all}
-use Rattle.rv_hart.specs.State.{State}
+use Rattle.rv_hart.specs.State.{State, is_stopped}
 use Rattle.rv_image_types.specs.declared.images.ImageParts.{ImageParts}
 use Rattle.cl_machine.specs.Order.{of_rank}
 use Rattle.cl_machine.specs.declared.steps.Step.{Step}
-use Rattle.cl_rank.specs.Turns.{is_stopped}
 use Rattle.cl_rank.specs.declared.stops.Stop.{Stop}
 use Rattle.cl_rank.specs.declared.stops.Stop.TheVariants.{AllEnded}
 use Rattle.cl_replay.specs.Replaying.{IsReached}

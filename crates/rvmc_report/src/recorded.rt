@@ -3,7 +3,6 @@
 ghost use Rattle.std.specs.Prelude.{◌≡◌, ℕ, List, IfErr, IfOk, length};
 ghost use Rattle.std.specs.List.{list_any};
 ghost use Rattle.cl_machine.specs.declared.steps.Step.{Step as StepView};
-ghost use Rattle.cl_rank.specs.Turns.{is_stopped};
 ghost use Rattle.cl_replay.specs.InnerReplaying.{ReplayFaultHolds};
 ghost use Rattle.rvmc_report.specs.Recorded.{IsReportOf, are_stopped, reached_ends, stop_by_harts, turns_in};
 ghost use Rattle.rvmc_report.specs.Report.{is_cut_short, report, status_of};
@@ -11,7 +10,7 @@ ghost use Rattle.rvmc_report.specs.Report.{is_cut_short, report, status_of};
 use crate::report::{any_has_trapped, put_rank};
 use cl_rank::{RankState, Stop};
 use cl_replay::{ClusterState, ReplayFault, Step, replay};
-use rv_hart::{Hart, Mode};
+use rv_hart::Hart;
 use rv_image_types::Image;
 use std::alloc::{AllocError, Global};
 
@@ -22,16 +21,10 @@ pub struct RecordReport {
     pub status: u8,
 }
 
-fn is_stopped(hart: &Hart) -> bool
-    ensures { result ≡ is_stopped hart.now.mode }
-{
-    matches!(hart.mode(), Mode::Ended(_) | Mode::Trapped(_, _))
-}
-
 fn are_stopped(harts: &[Hart]) -> bool
     ensures { result ≡ are_stopped harts.now }
 {
-    harts.iter().all(|hart| is_stopped(hart))
+    harts.iter().all(|hart| hart.mode().is_stopped())
 }
 
 /// Why a rank stopped whose harts are so, where that tells it.

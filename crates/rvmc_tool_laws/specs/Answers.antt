@@ -1,7 +1,7 @@
 -- What follows for a report of `run`, for what `--record` leaves, and for the verdict that `why` tells.
 use Rattle.std.specs.Prelude.{ℕ, ◌≡◌, ◌≢◌, ◌<◌, Bool, true, false, List, [], length, slice_get, Option, None, Some}
 use Rattle.std.specs.List.{list_all}
-use Rattle.cl_rank.specs.Turns.{is_stopped}
+use Rattle.rv_hart.specs.State.{is_stopped}
 use Rattle.cl_rank.specs.declared.stops.Stop.{Stop}
 use Rattle.cl_rank.specs.declared.stops.Stop.TheVariants.{AllEnded, Budget}
 use Rattle.cl_record.specs.declared.plans.Plan.{Plan}

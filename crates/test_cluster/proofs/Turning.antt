@@ -4,7 +4,7 @@ use Rattle.std.specs.Prelude.{OnOk, IfOk, IfErr}
 use Rattle.std.specs.List.{list_all}
 use Rattle.std.proofs.Common.{refl, sym, ap, ◌∙◌, subst, arith}
 use mathlib.Core.Logic.{inl, inr}
-use Rattle.rv_hart.specs.State.{State}
+use Rattle.rv_hart.specs.State.{State, is_stopped}
 use Rattle.mp_types.specs.declared.requests.Request.{Request}
 use Rattle.mp_types.specs.declared.replies.Reply.{Reply}
 use Rattle.cl_journal.specs.Replaying.{HubHistory}
@@ -18,7 +18,6 @@ use Rattle.cl_rank.specs.declared.stops.Stop.{Stop}
 use Rattle.cl_rank.specs.Deeds.{Act, Suits, IsStamp, kind_of, request_of}
 use Rattle.cl_rank.specs.Turns.{AllStopped, IsActive}
 use Rattle.cl_rank.specs.Turning.{Answered, DeskRule, IsTurn, RankView, StopHolds, TellsAct}
-use Rattle.cl_rank.specs.Turns.{is_stopped}
 use Rattle.cl_rank.specs.Turns.{all_stopped as all_stopped_of}
 use Rattle.cl_rank.proofs.Alone.{clock_moved, stamp_above}
 use Rattle.test_cluster.specs.Turns.{EndsWith, Enters, IsReplied, LeavesOne, StoppedRows}

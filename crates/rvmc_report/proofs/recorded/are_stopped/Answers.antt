@@ -1,8 +1,7 @@
 use Rattle.std.proofs.Common.{rules, tests}
 use Rattle.std.proofs.lemmas.Iterator.{YieldsList-from_slice}
 use Rattle.std.proofs.lemmas.Iterator.Search.{all_from_yields_List}
-use Rattle.rv_hart.specs.State.{State}
-use Rattle.cl_rank.specs.Turns.{is_stopped}
+use Rattle.rv_hart.specs.State.{State, is_stopped}
 use Rattle.rvmc_report.proofs.recorded.are_stopped.Goals as goal
 
 pub returns : goal.returns
