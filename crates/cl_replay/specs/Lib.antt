@@ -6,7 +6,6 @@ pub mod Steps
 pub mod Replays
 pub mod Replaying
 pub mod Records
-pub mod Checks
 pub mod Laws
 pub mod InnerReplaying
 pub mod InnerStates

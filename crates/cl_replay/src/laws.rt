@@ -1,6 +1,5 @@
 //! What holds of the definitions alone.
 
-ghost use Rattle.cl_replay.specs.Laws.{MergedIsGoodLaw, OneVerdictLaw};
 ghost use Rattle.cl_replay.specs.Records.{MergedReplaysLaw};
 ghost use Rattle.cl_replay.specs.Laws.{RunLaw};
 
@@ -15,16 +14,4 @@ pub fn run_law()
 /// calls and the clock of its journal, and to its boxes.
 pub fn merged_replays_law()
     ensures { MergedReplaysLaw }
-{}
-
-/// A list of steps has one verdict at most: so whoever decides by the machine alone finds what
-/// `check` finds.
-pub fn one_verdict_law()
-    ensures { OneVerdictLaw }
-{}
-
-/// The events of a record whose merge is a run, in order of their stamps, are good: so a check of
-/// them never finds a bad step.
-pub fn merged_is_good_law()
-    ensures { MergedIsGoodLaw }
 {}

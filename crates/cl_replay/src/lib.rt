@@ -2,12 +2,11 @@
 //! machine's table.
 //!
 //! The meaning stands in specs/: which cluster a state stands for, what a step may be refused for,
-//! where a list of steps leads, and what a check of it finds.
+//! and where a list of steps leads.
 #![tactic(auto)]
 
 mod boxes;
 mod calls;
-mod checking;
 mod faults;
 mod kept;
 mod kept_cluster;
@@ -19,11 +18,10 @@ mod turns;
 mod walking;
 mod words;
 
-pub use checking::{Verdict, check};
 pub use cl_machine::{KindRef, Step};
 pub use faults::{StepFault, WalkFault};
 pub use kept::{KeptRanks, SharedRank};
 pub use kept_cluster::KeptCluster;
-pub use laws::{merged_is_good_law, merged_replays_law, one_verdict_law, run_law};
+pub use laws::{merged_replays_law, run_law};
 pub use replaying::{ReplayFault, replay};
 pub use states::ClusterState;

@@ -120,9 +120,9 @@ fn run_plain(state: &mut RankState, rank: u8, steps: &[Step], from: usize, to: u
 
 impl ClusterState {
     /// Goes on from a place behind a step with the plain steps of the same rank and hart that follow it. Answers the
-    /// place that is reached, which is at most the last one that is given.
+    /// place that is reached, which is at most the last one that is given: none of them needs memory or is refused.
     #[inline(always)]
-    pub(crate) fn go_on(&mut self, steps: &[Step], from: usize, to: usize) -> usize
+    pub fn go_on(&mut self, steps: &[Step], from: usize, to: usize) -> usize
         requires after { 0 < from }
         requires forwards { from ≤ to }
         requires within { to ≤ length steps.now }

@@ -1,8 +1,8 @@
 -- What is told of the steps of a record that were checked.
 use Rattle.std.specs.Prelude.{ℕ, List, ◌++◌, codes}
 use Rattle.std.specs.Fmt.{decimal}
-use Rattle.cl_replay.specs.declared.checking.Verdict.{Verdict}
-use Rattle.cl_replay.specs.declared.checking.Verdict.TheVariants.{BadAt, Good}
+use Rattle.cl_check.specs.declared.checking.Verdict.{Verdict}
+use Rattle.cl_check.specs.declared.checking.Verdict.TheVariants.{BadAt, Good}
 use Rattle.rvmc_report.specs.Report.{newline}
 
 -- `good LEN` of so many steps, or `bad N` of the step that is wrong

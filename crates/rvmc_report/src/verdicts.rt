@@ -3,7 +3,7 @@
 ghost use Rattle.std.specs.Prelude.{◌≡◌, IfOk, string_bytes};
 ghost use Rattle.rvmc_report.specs.Verdicts.{verdict_status, verdict_text};
 
-use cl_replay::Verdict;
+use cl_check::Verdict;
 use std::alloc::{AllocError, Global};
 
 /// `good LEN`, where LEN is the number of steps, or `bad N`, where N is the number of the wrong one, with a newline

@@ -5,10 +5,10 @@ use Rattle.std.specs.Result.{result_unwrap_or}
 use Rattle.cl_machine.specs.declared.steps.Step.{Step}
 use Rattle.cl_record.specs.Records.{IsMergedRun}
 use Rattle.cl_record.specs.declared.records.Record.{Record}
-use Rattle.cl_replay.proofs.Verdicts.{merged_is_good}
-use Rattle.cl_replay.specs.Checks.{IsVerdict}
-use Rattle.cl_replay.specs.declared.checking.Verdict.{Verdict}
-use Rattle.cl_replay.specs.declared.checking.Verdict.TheVariants.{BadAt, Good}
+use Rattle.cl_check.proofs.Verdicts.{merged_is_good}
+use Rattle.cl_check.specs.Checks.{IsVerdict}
+use Rattle.cl_check.specs.declared.checking.Verdict.{Verdict}
+use Rattle.cl_check.specs.declared.checking.Verdict.TheVariants.{BadAt, Good}
 use Rattle.cl_text.proofs.ReadAgain.{read_again}
 use Rattle.cl_text.specs.Reading.{reading_record}
 use Rattle.cl_text.specs.declared.faults.RecordFault.{RecordFault}

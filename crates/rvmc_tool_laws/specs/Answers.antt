@@ -5,7 +5,7 @@ use Rattle.rv_hart.specs.State.{is_stopped}
 use Rattle.cl_rank.specs.declared.stops.Stop.{Stop}
 use Rattle.cl_rank.specs.declared.stops.Stop.TheVariants.{AllEnded, Budget}
 use Rattle.cl_record.specs.declared.plans.Plan.{Plan}
-use Rattle.cl_replay.specs.declared.checking.Verdict.TheVariants.{Good}
+use Rattle.cl_check.specs.declared.checking.Verdict.TheVariants.{Good}
 use Rattle.cl_machine.specs.declared.steps.Step.{Step}
 use Rattle.cl_deadlock.specs.Why.{IsVerdictOf}
 use Rattle.rv_image_types.specs.declared.images.ImageParts.{ImageParts}

@@ -1,7 +1,7 @@
 //! What commands leave meets what the laws of answers ask for: each witness makes the calls, and has the law's answer.
 
 ghost use Rattle.std.specs.Prelude.{◌≡◌, ◌≢◌, ℕ, [], IfSome, List, Some, false, length, slice_get};
-ghost use Rattle.cl_replay.specs.declared.checking.Verdict.TheVariants.{Good};
+ghost use Rattle.cl_check.specs.declared.checking.Verdict.TheVariants.{Good};
 ghost use Rattle.rvmc_tool.specs.Answers.{Says};
 ghost use Rattle.rvmc_answers.specs.Ends.{IsDone, end_status};
 ghost use Rattle.rvmc_tool_laws.specs.Answers.{FitsStop};

@@ -5,10 +5,10 @@ use Rattle.std.specs.List.{All, sum_by}
 use Rattle.cl_debug.specs.declared.faults.DebugFault.{DebugFault}
 use Rattle.cl_debug.specs.declared.faults.DebugFault.TheVariants as debug
 use Rattle.cl_machine.specs.declared.steps.Step.{Step}
-use Rattle.cl_replay.specs.Checks.{IsVerdict}
+use Rattle.cl_check.specs.Checks.{IsVerdict}
 use Rattle.cl_replay.specs.InnerReplaying.{BreaksAt, ReplayFaultHolds}
 use Rattle.cl_replay.specs.Replays.{IsRunUpTo}
-use Rattle.cl_replay.specs.declared.checking.Verdict.{Verdict}
+use Rattle.cl_check.specs.declared.checking.Verdict.{Verdict}
 use Rattle.cl_replay.specs.declared.replaying.ReplayFault.TheVariants as replay
 use Rattle.cl_text.specs.Reading.{reading_record}
 use Rattle.rv_image_types.specs.declared.images.ImageParts.{ImageParts}

@@ -6,8 +6,8 @@ ghost use Rattle.rvmc_views.specs.Faults.{IsStepsFault};
 ghost use Rattle.rvmc_answers.specs.Outputs.{output_bytes};
 ghost use Rattle.rvmc_views.specs.Records.{IsChecked};
 
+use cl_check::check;
 use cl_machine::Step;
-use cl_replay::check;
 use rv_image_types::Image;
 use rvmc_answers::faults::Fault;
 use rvmc_answers::verdicts::{verdict_status, verdict_text};

@@ -18,9 +18,9 @@ use Rattle.cl_machine.specs.Journal.{reply_in}
 use Rattle.cl_machine.specs.Laws.{ComesAfter, IsGood}
 use Rattle.cl_machine.specs.declared.steps.Step.{Step}
 use Rattle.cl_machine.proofs.Verdicts.{step_by_step}
-use Rattle.cl_replay.specs.declared.checking.Verdict.{Verdict}
-use Rattle.cl_replay.specs.Checks.{IsOrderedRun, IsVerdict}
-use Rattle.cl_replay.proofs.Verdicts.{one_verdict}
+use Rattle.cl_check.specs.declared.checking.Verdict.{Verdict}
+use Rattle.cl_check.specs.Checks.{IsOrderedRun, IsVerdict}
+use Rattle.cl_check.proofs.Verdicts.{one_verdict}
 use Rattle.test_cluster.specs.Checks.{Asks, ComesNext, EndsWith, HasAnotherReply, Idles, MissesFull}
 use Rattle.test_cluster.specs.Checks.{TakesAtAnother, TakesNothing}
 

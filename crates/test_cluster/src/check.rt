@@ -3,12 +3,12 @@
 ghost use Rattle.std.specs.Prelude.{◌≡◌, ◌+◌, ◌++◌, ◌∷◌, ℕ, List, [], IfOk, length};
 ghost use Rattle.cl_machine.specs.Cluster.{Cluster, IsStep};
 ghost use Rattle.cl_machine.specs.Steps.{Step as StepView};
-ghost use Rattle.cl_replay.specs.declared.checking.Verdict.TheVariants as verdict;
+ghost use Rattle.cl_check.specs.declared.checking.Verdict.TheVariants as verdict;
 ghost use Rattle.test_cluster.specs.Checks.{ComesNext, EndsWith, HasAnotherReply, Idles, MissesFull};
 ghost use Rattle.test_cluster.specs.Checks.{TakesAtAnother, TakesNothing};
 
+use cl_check::{Verdict, check};
 use cl_machine::Step;
-use cl_replay::{Verdict, check};
 use rv_image_types::Image;
 use std::alloc::{AllocError, Global};
 

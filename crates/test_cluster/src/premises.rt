@@ -4,14 +4,15 @@ ghost use Rattle.std.specs.Prelude.{◌≡◌, ◌≤◌, All, IfSome, length};
 ghost use Rattle.cl_machine.specs.Merge.{IsMerge};
 ghost use Rattle.cl_record.specs.Records.{IsMergedRun, steps_in};
 ghost use Rattle.cl_replay.specs.Records.{ShowsRecord};
-ghost use Rattle.cl_replay.specs.declared.checking.Verdict.TheVariants as verdict;
+ghost use Rattle.cl_check.specs.declared.checking.Verdict.TheVariants as verdict;
 ghost use Rattle.cl_text.specs.Limits.{FitsStep};
 ghost use Rattle.rv_image_types.specs.Image.{IsImage};
 
+use cl_check::{Verdict, check, merged_is_good_law};
 use cl_machine::Step;
 use cl_merge::merge;
 use cl_record::{Plan, Record};
-use cl_replay::{ClusterState, Verdict, check, merged_is_good_law, merged_replays_law, replay};
+use cl_replay::{ClusterState, merged_replays_law, replay};
 use cl_run::run_one;
 use cl_text_laws::laws::records_fit_law;
 use rv_image_types::Image;

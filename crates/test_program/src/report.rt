@@ -13,7 +13,8 @@ ghost use Rattle.rvmc_report.specs.declared.faults.Fault.TheVariants as faults;
 ghost use Rattle.rvmc_report.specs.declared.faults.PlaceFault.TheVariants.{PastEnd};
 ghost use Rattle.rvmc_report.specs.declared.input.InputFault.TheVariants as input;
 
-use cl_replay::{ReplayFault, Verdict};
+use cl_check::Verdict;
+use cl_replay::ReplayFault;
 use cl_run::{Record, RunFault};
 use cl_text::RecordFault;
 use rv_asm::{AsmFault, AsmFaultKind};

@@ -1,6 +1,6 @@
 use Rattle.std.proofs.Common.{◌≡◌}
-use Rattle.cl_replay.specs.Checks.{IsVerdict}
-use Rattle.cl_replay.specs.declared.checking.Verdict.{Verdict}
+use Rattle.cl_check.specs.Checks.{IsVerdict}
+use Rattle.cl_check.specs.declared.checking.Verdict.{Verdict}
 use Rattle.test_cluster.proofs.Checking.{good_with_last, misses_full}
 use Rattle.test_cluster.proofs.Merging.{ok_map}
 use Rattle.test_cluster.proofs.check.a_miss_of_a_full_box_is_good.Goals as goal

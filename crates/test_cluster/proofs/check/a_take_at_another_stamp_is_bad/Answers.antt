@@ -1,6 +1,6 @@
 use Rattle.std.proofs.Common.{◌≡◌, length}
-use Rattle.cl_replay.specs.Checks.{IsVerdict}
-use Rattle.cl_replay.specs.declared.checking.Verdict.{Verdict}
+use Rattle.cl_check.specs.Checks.{IsVerdict}
+use Rattle.cl_check.specs.declared.checking.Verdict.{Verdict}
 use Rattle.test_cluster.proofs.Checking.{no_step, takes_at_another}
 use Rattle.test_cluster.proofs.Merging.{ok_map}
 use Rattle.test_cluster.proofs.check.a_take_at_another_stamp_is_bad.Goals as goal

@@ -1,6 +1,6 @@
 use Rattle.std.proofs.Common.{◌≡◌, length}
-use Rattle.cl_replay.specs.Checks.{IsVerdict}
-use Rattle.cl_replay.specs.declared.checking.Verdict.{Verdict}
+use Rattle.cl_check.specs.Checks.{IsVerdict}
+use Rattle.cl_check.specs.declared.checking.Verdict.{Verdict}
 use Rattle.test_cluster.proofs.Checking.{too_early}
 use Rattle.test_cluster.proofs.Merging.{ok_map}
 use Rattle.test_cluster.proofs.check.an_early_step_is_bad.Goals as goal

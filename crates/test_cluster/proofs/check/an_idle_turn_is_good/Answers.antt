@@ -1,6 +1,6 @@
 use Rattle.std.proofs.Common.{◌≡◌}
-use Rattle.cl_replay.specs.Checks.{IsVerdict}
-use Rattle.cl_replay.specs.declared.checking.Verdict.{Verdict}
+use Rattle.cl_check.specs.Checks.{IsVerdict}
+use Rattle.cl_check.specs.declared.checking.Verdict.{Verdict}
 use Rattle.test_cluster.proofs.Checking.{good_with_last, idles}
 use Rattle.test_cluster.proofs.Merging.{ok_map}
 use Rattle.test_cluster.proofs.check.an_idle_turn_is_good.Goals as goal

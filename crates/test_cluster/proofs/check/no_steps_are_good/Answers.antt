@@ -1,6 +1,6 @@
 use Rattle.std.proofs.Common.{◌≡◌, [], refl}
-use Rattle.cl_replay.specs.Checks.{IsVerdict}
-use Rattle.cl_replay.specs.declared.checking.Verdict.{Verdict}
+use Rattle.cl_check.specs.Checks.{IsVerdict}
+use Rattle.cl_check.specs.declared.checking.Verdict.{Verdict}
 use Rattle.test_cluster.proofs.Checking.{nothing_is_good}
 use Rattle.test_cluster.proofs.Merging.{ok_map}
 use Rattle.test_cluster.proofs.check.no_steps_are_good.Goals as goal

@@ -5,12 +5,11 @@ ghost use Rattle.std.specs.List.{last_or};
 ghost use Rattle.rv_image_types.specs.declared.images.ImageParts.{ImageParts};
 ghost use Rattle.cl_machine.specs.Laws.{ComesAfter};
 ghost use Rattle.cl_machine.specs.Steps.{Step as StepView};
-ghost use Rattle.cl_replay.specs.Checks.{IsVerdict};
+ghost use Rattle.cl_check.specs.Checks.{IsVerdict};
 ghost use Rattle.cl_replay.specs.Replaying.{IsReached};
 
-use crate::faults::StepFault;
-use crate::states::ClusterState;
 use cl_machine::Step;
+use cl_replay::{ClusterState, StepFault};
 use rv_image_types::Image;
 use std::alloc::{AllocError, Global};
 

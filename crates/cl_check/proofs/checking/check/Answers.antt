@@ -1,6 +1,6 @@
 use Rattle.std.proofs.Common.{refl}
 use Rattle.cl_machine.specs.Cluster.{loaded_cluster}
-use Rattle.cl_replay.proofs.checking.check.Goals as goal
+use Rattle.cl_check.proofs.checking.check.Goals as goal
 
 pub returns : goal.returns
 returns c = c.check_from.ensures c.args.image.now (record {

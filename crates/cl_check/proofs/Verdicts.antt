@@ -13,10 +13,10 @@ use Rattle.cl_machine.specs.Order.{Before, InOrder}
 use Rattle.cl_machine.specs.declared.steps.Step.{Step}
 use Rattle.cl_machine.proofs.Verdicts.{one_merge, step_by_step}
 use Rattle.cl_record.specs.Records.{steps_in}
-use Rattle.cl_replay.specs.declared.checking.Verdict.{Verdict}
+use Rattle.cl_check.specs.declared.checking.Verdict.{Verdict}
 use Rattle.cl_replay.specs.declared.states.ClusterState.{ClusterState}
-use Rattle.cl_replay.specs.Checks.{IsOrderedRun}
-use Rattle.cl_replay.specs.Laws.{MergedIsGoodLaw, OneVerdictLaw}
+use Rattle.cl_check.specs.Checks.{IsOrderedRun}
+use Rattle.cl_check.specs.Laws.{MergedIsGoodLaw, OneVerdictLaw}
 use Rattle.cl_replay.specs.Replaying.{IsReached}
 use Rattle.cl_replay.specs.Steps.{Leads, LeadsNowhere}
 use Rattle.cl_replay.proofs.Runs.{take_next}

@@ -4,7 +4,7 @@ use Rattle.rv_image_types.specs.declared.images.ImageParts.{ImageParts}
 use Rattle.cl_machine.specs.Order.{InOrder}
 use Rattle.cl_machine.specs.declared.steps.Step.{Step}
 use Rattle.cl_replay.specs.Replaying.{IsReached}
-use Rattle.cl_replay.proofs.checking.check_from.Given as goal
+use Rattle.cl_check.proofs.checking.check_from.Given as goal
 
 abbrev pub invariant-loop-n : goal.invariant-loop-n
 invariant-loop-n l =

@@ -4,7 +4,7 @@ use Rattle.rv_image_types.specs.declared.images.ImageParts.{ImageParts}
 use Rattle.cl_machine.specs.Cluster.{Cluster, IsRun, loaded_cluster}
 use Rattle.cl_machine.specs.Order.{InOrder}
 use Rattle.cl_machine.specs.declared.steps.Step.{Step}
-use Rattle.cl_replay.specs.declared.checking.Verdict.{Verdict}
+use Rattle.cl_check.specs.declared.checking.Verdict.{Verdict}
 
 -- the steps are a run of the image, in order of their stamps, and where stamps are equal of their ranks
 pub record IsOrderedRun (image : ImageParts) (steps : List Step) : Type 0 where

@@ -1,7 +1,7 @@
 use Rattle.std.proofs.Common.{refl, arith, length, ◌-◌, IsTrue}
 use Rattle.std.proofs.lemmas.Option.{slice_get_read}
-use Rattle.cl_replay.proofs.Verdicts.{after_last}
-use Rattle.cl_replay.proofs.checking.comes_next.Goals as goal
+use Rattle.cl_check.proofs.Verdicts.{after_last}
+use Rattle.cl_check.proofs.checking.comes_next.Goals as goal
 
 pub returns-else-n-eq0 : goal.returns-else-n-eq0
 returns-else-n-eq0 c = λ step there.
