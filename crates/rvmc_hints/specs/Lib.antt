@@ -3,7 +3,6 @@ pub mod Content
 pub mod Near
 pub mod Plans
 pub mod Words
-pub mod Calls
 pub mod Rows
 pub mod HintLines
 pub mod Runs

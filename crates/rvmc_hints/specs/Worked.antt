@@ -1,6 +1,6 @@
 -- Hints, by rows: what stands in an input, plans, names and words.
 use Rattle.std.specs.Prelude.{◌≡◌, ◌++◌, true, false, [], ◌∷◌, None, Some, codes, refl}
-use Rattle.rvmc_hints.specs.Calls.{call_number}
+use Rattle.cl_calls.specs.Names.{call_number}
 use Rattle.rvmc_hints.specs.Content.{content_in}
 use Rattle.rvmc_hints.specs.Near.{is_near}
 use Rattle.rvmc_hints.specs.Plans.{plans_in}
@@ -89,6 +89,7 @@ pub two_slips : is_near (codes "add") (codes "sub") ≡ false
 two_slips = refl
 
 pub send_is_16 : call_number (codes "SEND") ≡ Some 16
+unfolding call_number
 send_is_16 = refl
 
 pub a_file : is_file_name (codes "prog.s") ≡ true

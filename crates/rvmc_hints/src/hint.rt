@@ -88,7 +88,7 @@ pub enum Hint<'a> {
     /// The name of a call where a number is wanted.
     Call {
         word: &'a [u8],
-        number: u8,
+        number: u64,
     },
     /// A number that doesn't fit.
     Unfit {
@@ -293,7 +293,7 @@ fn put_foreign<W: fmt::Write>(f: &mut fmt::Formatter<W>, word: &[u8], here: &str
 }
 
 /// The name of a call where a number is wanted.
-fn put_call<W: fmt::Write>(f: &mut fmt::Formatter<W>, word: &[u8], number: u8) -> fmt::Result {
+fn put_call<W: fmt::Write>(f: &mut fmt::Formatter<W>, word: &[u8], number: u64) -> fmt::Result {
     write!(f, "{} is no number: it is call {number}", Shown(word))
 }
 

@@ -2,7 +2,6 @@
 //! the command line and of the fault. None of these takes memory. And what can be told of a run that is as it should be.
 #![tactic(auto)]
 
-mod calls;
 mod content;
 mod hint;
 mod labels;

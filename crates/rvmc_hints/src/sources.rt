@@ -1,6 +1,5 @@
 //! What is told of a source's first fault, by the words of its line.
 
-use crate::calls::call_number;
 use crate::hint::{Hint, Kind, Place};
 use crate::labels::{missing_hint, twice_hint};
 use crate::lines::{first_word, is_number, line_at, statement};
@@ -8,6 +7,7 @@ use crate::mnemonics::{Row, directives, here_for, mnemonics, row_of};
 use crate::near::is_near;
 use crate::seen::are_printable;
 use crate::tokens::token_hint;
+use cl_calls::call_number;
 use rv_asm_statements::register;
 use rv_asm_tokens::{AsmFault, AsmFaultKind, Token, Tokens, value_of};
 

@@ -9,9 +9,8 @@ use Rattle.rv_image_types.specs.declared.images.Symbol.{Symbol}
 use Rattle.rv_memory.specs.Memory.{Memory}
 use Rattle.mp_hub.specs.Hub.{HubView}
 use Rattle.part_box.specs.declared.settled.Settled.{Settled}
-use Rattle.cl_calls.specs.declared.calls.Call.{Call}
-use Rattle.cl_calls.specs.declared.calls.Call.TheVariants as call
-use Rattle.cl_calls.specs.Calls.{call_named}
+use Rattle.cl_calls.specs.Calls.{argument}
+use Rattle.cl_calls.specs.Names.{call_name}
 use Rattle.cl_state.specs.Rank.{Rank}
 use Rattle.rvmc_report.specs.Report.{newline}
 use Rattle.rvmc_inspect.specs.declared.awaited.Wait.{Wait}
@@ -60,46 +59,12 @@ abbrev pub waits_text : Bool → List Wait → List ℕ
 waits_text inside [] = codes "nothing more"
 waits_text inside (w ∷ found) = wait_text inside w ++ more_text inside found
 
--- ---- the calls
-
-abbrev pub call_name : Call → List ℕ
-call_name (call.Exit code) = codes "EXIT"
-call_name (call.Put buffer count) = codes "PUT"
-call_name (call.Rank comm) = codes "RANK"
-call_name (call.Size comm) = codes "SIZE"
-call_name call.Hart = codes "HART"
-call_name (call.Send s) = codes "SEND"
-call_name (call.Ssend s) = codes "SSEND"
-call_name (call.Recv r status) = codes "RECV"
-call_name (call.Isend s) = codes "ISEND"
-call_name (call.Issend s) = codes "ISSEND"
-call_name (call.Irecv r) = codes "IRECV"
-call_name (call.Test c) = codes "TEST"
-call_name (call.Wait c) = codes "WAIT"
-call_name (call.Iprobe p) = codes "IPROBE"
-call_name (call.Probe p) = codes "PROBE"
-call_name (call.Improbe p) = codes "IMPROBE"
-call_name (call.Mprobe p) = codes "MPROBE"
-call_name (call.Imrecv m) = codes "IMRECV"
-call_name (call.Mrecv m status) = codes "MRECV"
-call_name (call.SendInit s) = codes "SEND_INIT"
-call_name (call.RecvInit r) = codes "RECV_INIT"
-call_name (call.Start handle) = codes "START"
-call_name (call.RequestFree handle) = codes "REQUEST_FREE"
-call_name (call.Testall s) = codes "TESTALL"
-call_name (call.Waitall s) = codes "WAITALL"
-call_name (call.PsendInit t) = codes "PSEND_INIT"
-call_name (call.PrecvInit t) = codes "PRECV_INIT"
-call_name (call.Pready handle part) = codes "PREADY"
-call_name (call.Parrived handle part) = codes "PARRIVED"
-call_name call.Unknown = codes "no call"
-
 -- ---- a hart, and the harts of a rank
 
 -- where a hart makes the call in which it waits: at the program's own call, or where all calls are told where it is itself
 abbrev pub waiting_place : Bool → List Symbol → Memory → State → List ℕ
-waiting_place true symbols memory hart = made_text symbols hart.pc (call_name (call_named hart))
-waiting_place false symbols memory hart = own_place_text symbols memory hart (call_name (call_named hart))
+waiting_place true symbols memory hart = made_text symbols hart.pc (call_name (argument hart 7))
+waiting_place false symbols memory hart = own_place_text symbols memory hart (call_name (argument hart 7))
 
 -- that place, and what the hart waits for
 unfoldable pub waiting_text : Bool → List Symbol → Memory → State → List Wait → List ℕ

@@ -6,9 +6,8 @@ ghost use Rattle.rvmc_inspect.specs.Texts.{doing_text, ended_text, hart_head, ha
 ghost use Rattle.rvmc_inspect.specs.Texts.{waiting_place, waiting_text};
 
 use crate::awaited::{Wait, put_waits};
-use crate::calls::call_name;
 use crate::finding::waits;
-use cl_calls::Call;
+use cl_calls::{call_name, called_number};
 use cl_state::RankState;
 use mp_hub::HubState;
 use part_box::Settled;
@@ -52,7 +51,7 @@ fn put_waiting_place(
         ≡ text.old.items
         ++ waiting_place setting.now.framed setting.now.symbols.now setting.now.memory.now hart.now) }
 {
-    let name = call_name(&Call::of(hart));
+    let name = call_name(called_number(hart));
     if setting.framed {
         put_made(text, setting.symbols, hart.pc(), name)
     } else {

@@ -7,7 +7,6 @@
 #![tactic(auto)]
 
 mod awaited;
-mod calls;
 mod finding;
 mod harts;
 mod telling;
@@ -16,7 +15,6 @@ mod word_texts;
 mod words;
 
 pub use awaited::{Wait, wait_text};
-pub use calls::call_name;
 pub use cl_deadlock::deadlock;
 pub use finding::waits;
 pub use harts::put_harts;

@@ -4,7 +4,6 @@ pub mod Groups
 pub mod Told
 pub mod Counts
 pub mod Hottest
-pub mod CallNames
 pub mod PutSteps
 pub mod KeptOnes
 pub mod LineParts

@@ -1,10 +1,6 @@
--- What holds of the text of a record: no line is left out, and a call is counted under its name.
+-- What holds of the text of a record: no line is left out.
 use Rattle.std.specs.Prelude.{ℕ, ◌≡◌, ◌⊎◌, true, false, List, [], ◌∷◌, ◌++◌, length}
 use Rattle.std.specs.List.{AllByRecursion, flat_map}
-use Rattle.cl_calls.specs.declared.calls.Call.{Call}
-use Rattle.rvmc_sights.specs.Below.{call_name}
-use Rattle.rvmc_stats.specs.Counted.{call_number}
-use Rattle.rvmc_stats.specs.Names.{named_call}
 use Rattle.rvmc_list.specs.Folding.{Line, lines_text, folded_text}
 
 -- a line that stands in the text, and those that are folded into it
@@ -32,7 +28,3 @@ pub record AreGrouped (lines : List Line) : Type 0 where
 
 abbrev pub NoCallLeftOutLaw : Type 0
 NoCallLeftOutLaw = (lines : List Line) → AreGrouped lines
-
--- a call is counted under its name
-abbrev pub CallNamesLaw : Type 0
-CallNamesLaw = (call : Call) → named_call (call_number call) ≡ call_name call

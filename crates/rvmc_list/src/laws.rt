@@ -1,13 +1,8 @@
 //! Laws of the text of a record. The functions do nothing; their contracts are the laws.
 
-ghost use Rattle.rvmc_list.specs.Laws.{CallNamesLaw, NoCallLeftOutLaw};
+ghost use Rattle.rvmc_list.specs.Laws.{NoCallLeftOutLaw};
 
 /// Each line that is told stands in the text, alone or as one of several that are folded and counted: none is left out.
 pub fn no_call_left_out_law()
     ensures { NoCallLeftOutLaw }
-{}
-
-/// A call is counted under its own name.
-pub fn call_names_law()
-    ensures { CallNamesLaw }
 {}

@@ -85,18 +85,27 @@ abbrev pub trap_shape : Mode → Option Shape
 trap_shape (Trapped cause at) = Some Shape.Trap
 trap_shape mode = None
 
--- calls that neither talk nor end anything
-abbrev pub is_silent : Call → Bool
-is_silent (call.Rank comm) = true
-is_silent (call.Size comm) = true
-is_silent call.Hart = true
-is_silent (call.SendInit s) = true
-is_silent (call.RecvInit r) = true
-is_silent (call.Start handle) = true
-is_silent (call.RequestFree handle) = true
-is_silent (call.PsendInit t) = true
-is_silent (call.PrecvInit t) = true
-is_silent c = false
+-- calls that talk to other ranks, or look at what was begun with them
+abbrev pub is_talk : Call → Bool
+is_talk (call.Send s) = true
+is_talk (call.Ssend s) = true
+is_talk (call.Recv r status) = true
+is_talk (call.Isend s) = true
+is_talk (call.Issend s) = true
+is_talk (call.Irecv r) = true
+is_talk (call.Test c) = true
+is_talk (call.Wait c) = true
+is_talk (call.Iprobe p) = true
+is_talk (call.Probe p) = true
+is_talk (call.Improbe p) = true
+is_talk (call.Mprobe p) = true
+is_talk (call.Imrecv m) = true
+is_talk (call.Mrecv m status) = true
+is_talk (call.Testall s) = true
+is_talk (call.Waitall s) = true
+is_talk (call.Pready handle part) = true
+is_talk (call.Parrived handle part) = true
+is_talk c = false
 
 abbrev pub is_put : Call → Bool
 is_put (call.Put buffer count) = true
@@ -104,7 +113,7 @@ is_put c = false
 
 -- a call that needs only its rank, and wasn't refused
 abbrev pub done_shape : Call → Option Shape
-done_shape c = if is_put c then Some Shape.Put else (if is_silent c then None else Some Shape.Other)
+done_shape c = if is_put c then Some Shape.Put else (if is_talk c then Some Shape.Other else None)
 
 abbrev pub local_shape : Call → State → Mode → Option Shape
 local_shape c after (Ended code) = Some Shape.Exit

@@ -4,7 +4,7 @@ ghost use Rattle.std.specs.Prelude.{◌≡◌, IfOk, option_to_list};
 ghost use Rattle.cl_calls.specs.Calls.{call_named};
 ghost use Rattle.cl_machine.specs.SameSteps.{kind_seen};
 ghost use Rattle.rvmc_picture.specs.Deeds.{IsDeedBy, all_shape, done_shape, got_in, hub_shape, is_put as is_put_of};
-ghost use Rattle.rvmc_picture.specs.Deeds.{is_silent as is_quiet_of, is_vain as is_vain_of, is_in_wait as is_waiting_of};
+ghost use Rattle.rvmc_picture.specs.Deeds.{is_talk as is_talk_of, is_vain as is_vain_of, is_in_wait as is_waiting_of};
 ghost use Rattle.rvmc_picture.specs.Deeds.{local_shape, made_in, numbers_by, posted_shape, posts_by, ready_in, request_in};
 ghost use Rattle.rvmc_picture.specs.Deeds.{is_vain_reply as is_vain_reply_of, shape_in, spot_of as spot_at, took_in, trap_shape as trap_shape_of};
 ghost use Rattle.std.specs.List.{list_any};
@@ -134,22 +134,31 @@ fn trap_shape(mode: Mode) -> Option<Shape>
     }
 }
 
-/// Whether a call neither talks nor ends anything.
-fn is_quiet(call: &Call) -> bool
-    ensures { result ≡ is_quiet_of call.now }
+/// Whether a call talks to other ranks, or looks at what was begun with them.
+fn is_talk(call: &Call) -> bool
+    ensures { result ≡ is_talk_of call.now }
 {
-    match call {
-        Call::Rank { .. }
-        | Call::Size { .. }
-        | Call::Hart
-        | Call::SendInit(_)
-        | Call::RecvInit(_)
-        | Call::Start { .. }
-        | Call::RequestFree { .. }
-        | Call::PsendInit(_)
-        | Call::PrecvInit(_) => true,
-        _ => false,
-    }
+    matches!(
+        call,
+        Call::Send(_)
+            | Call::Ssend(_)
+            | Call::Recv { .. }
+            | Call::Isend(_)
+            | Call::Issend(_)
+            | Call::Irecv(_)
+            | Call::Test(_)
+            | Call::Wait(_)
+            | Call::Iprobe(_)
+            | Call::Probe(_)
+            | Call::Improbe(_)
+            | Call::Mprobe(_)
+            | Call::Imrecv(_)
+            | Call::Mrecv { .. }
+            | Call::Testall(_)
+            | Call::Waitall(_)
+            | Call::Pready { .. }
+            | Call::Parrived { .. }
+    )
 }
 
 /// Whether a call puts bytes out.
@@ -165,10 +174,10 @@ fn done_shape_of(call: &Call) -> Option<Shape>
 {
     if is_put(call) {
         Some(Shape::Put)
-    } else if is_quiet(call) {
-        None
-    } else {
+    } else if is_talk(call) {
         Some(Shape::Other)
+    } else {
+        None
     }
 }
 

@@ -3,12 +3,12 @@
 ghost use Rattle.std.specs.Prelude.{◌≡◌, ◌++◌, OnOk};
 ghost use Rattle.rvmc_picture.specs.Notes.{cause_note};
 
-use cl_calls::Call;
+use cl_calls::{call_name, called_number};
 use rv_decode::Reg;
 use rv_hart::{Hart, Mode};
 use rvmc_draw::{Deed, Shape, wildcard_in};
 use rvmc_places::put_trapped;
-use rvmc_sights::{After, call_name};
+use rvmc_sights::After;
 use rvmc_stats::code_name;
 use std::alloc::Global;
 use std::io;
@@ -40,7 +40,7 @@ fn put_cause(note: &mut Vec<u8>, after: &After) -> io::Result<()>
 
 /// Adds a call that was refused, and its code.
 fn put_refused(note: &mut Vec<u8>, before: &Hart, after: &Hart) -> io::Result<()> {
-    note.extend_from_slice(call_name(&Call::of(before)).as_bytes())?;
+    note.extend_from_slice(call_name(called_number(before)).as_bytes())?;
     note.extend_from_slice(b" ")?;
     note.extend_from_slice(code_name(after.get(Reg::new(10))).as_bytes())?;
     Ok(())
@@ -49,7 +49,7 @@ fn put_refused(note: &mut Vec<u8>, before: &Hart, after: &Hart) -> io::Result<()
 /// Adds what a receive or a claim of any source asks for.
 fn put_wild(note: &mut Vec<u8>, deed: &Deed, before: &Hart) -> io::Result<()> {
     if let Some(selection) = wildcard_in(deed.made) {
-        note.extend_from_slice(call_name(&Call::of(before)).as_bytes())?;
+        note.extend_from_slice(call_name(called_number(before)).as_bytes())?;
         match selection.tag {
             None => note.extend_from_slice(b" any, any")?,
             Some(tag) => write!(note, " any, {tag}")?,

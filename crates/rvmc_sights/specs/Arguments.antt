@@ -71,7 +71,6 @@ arguments_text (call.Exit code) = codes " code=" ++ decimal code
 arguments_text (call.Put buffer count) = buffer_text buffer (codes " count=") count
 arguments_text (call.Rank comm) = comm_argument comm
 arguments_text (call.Size comm) = comm_argument comm
-arguments_text call.Hart = []
 arguments_text (call.Send s) = sending_text s
 arguments_text (call.Ssend s) = sending_text s
 arguments_text (call.Recv r status) = receiving_text r ++ status_text status
@@ -96,4 +95,4 @@ arguments_text (call.PsendInit t) = partitioning_text (codes " dest=") t
 arguments_text (call.PrecvInit t) = partitioning_text (codes " source=") t
 arguments_text (call.Pready handle part) = part_text handle part
 arguments_text (call.Parrived handle part) = part_text handle part
-arguments_text call.Unknown = []
+arguments_text _ = []

@@ -2,7 +2,7 @@
 pub use Rattle.rvmc_inspect.specs.Below.{Fault, IsDeadlockVerdict, TakesAtMost, fault_of_debug, fault_of_record}
 pub use Rattle.rvmc_inspect.specs.Below.{listing, newline}
 pub use Rattle.rvmc_inspect.specs.Below.faults
-pub use Rattle.rvmc_inspect.specs.Texts.{call_name, hart_waits_text}
+pub use Rattle.rvmc_inspect.specs.Texts.{hart_waits_text}
 pub use Rattle.rvmc_inspect.specs.Waits.{waits}
 pub use Rattle.rvmc_inspect.specs.Why.{IsWhy, company_text}
 pub use Rattle.rvmc_inspect.specs.WordTexts.{padded_hex}

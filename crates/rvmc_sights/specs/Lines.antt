@@ -5,7 +5,8 @@ use Rattle.rv_hart.specs.State.{State, read}
 use Rattle.rv_image_types.specs.declared.images.Symbol.{Symbol}
 use Rattle.rv_memory.specs.Access.{word_at}
 use Rattle.cl_calls.specs.declared.calls.Call.{Call}
-use Rattle.cl_calls.specs.Calls.{call_named}
+use Rattle.cl_calls.specs.Calls.{argument, call_named}
+use Rattle.cl_calls.specs.Names.{call_name}
 use Rattle.cl_state.specs.Asked.{asked, no_hart}
 use Rattle.cl_state.specs.Rank.{Rank}
 use Rattle.cl_state.specs.declared.asking.Ask.{Ask}
@@ -14,7 +15,6 @@ use Rattle.cl_trace.specs.declared.events.Kind.{Kind}
 use Rattle.cl_machine.specs.declared.steps.Step.{Step}
 use Rattle.rvmc_places.specs.Causes.{has_overflowed}
 use Rattle.rvmc_places.specs.Places.{named_address_text}
-use Rattle.rvmc_inspect.specs.Texts.{call_name}
 use Rattle.rvmc_sights.specs.Arguments.{arguments_text}
 use Rattle.rvmc_sights.specs.Gave.{box_text, end_text, is_refused, kind_text}
 use Rattle.rvmc_sights.specs.Instructions.{instruction_text}
@@ -70,26 +70,29 @@ sight_of place e before after = record {
 
 -- ---- its text
 
--- a refused call: `SEND refused: BAD_COUNT`, and its arguments
+-- behind the name of a refused call, as `SEND refused: BAD_COUNT`: the code, and its arguments
 abbrev pub refused_text : Call → State → List ℕ
-refused_text c after = call_name c ++ (codes " refused: " ++ (code_name (read after 10) ++ arguments_text c))
+refused_text c after = codes " refused: " ++ (code_name (read after 10) ++ arguments_text c)
 
--- a call that wasn't: its arguments, the box that it asked, what the hub told, and how it ended
+-- behind the name of one that wasn't: its arguments, the box that it asked, what the hub told, and how it ended
 abbrev pub done_text : Call → Sight → List ℕ
 done_text c sight =
-    call_name c
-    ++ (arguments_text c
-    ++ (box_text sight.box ++ (kind_text sight.step.kind ++ end_text c sight.after sight.after.mode)))
+    arguments_text c
+    ++ (box_text sight.box ++ (kind_text sight.step.kind ++ end_text c sight.after sight.after.mode))
 
-abbrev pub made_call_text : Call → Sight → List ℕ
-made_call_text c sight =
+abbrev pub called_text : Call → Sight → List ℕ
+called_text c sight =
     if is_refused sight.after sight.after.mode then refused_text c sight.after else done_text c sight
+
+-- the name, by the number in a7, and the rest
+abbrev pub made_call_text : Sight → List ℕ
+made_call_text sight = call_name (argument sight.before 7) ++ called_text (call_named sight.before) sight
 
 -- an instruction, a turn of a stopped hart, or a call
 abbrev pub deed_text : Kind → Sight → List ℕ
 deed_text Kind.Plain sight = instruction_text sight.word sight.before sight.after sight.overflow
 deed_text Kind.Idle sight = codes "stopped"
-deed_text _ sight = made_call_text (call_named sight.before) sight
+deed_text _ sight = made_call_text sight
 
 -- `PLACE rank R hart H stamp S at `, before the address of the hart's pc
 abbrev pub head_text : ℕ → Step → List ℕ

@@ -178,6 +178,6 @@ pub(crate) fn put_arguments(text: &mut Vec<u8>, call: &Call) -> io::Result<()>
         Call::Pready { handle, part } | Call::Parrived { handle, part } => {
             put_part(text, *handle, *part)
         }
-        Call::Hart | Call::Unknown => Ok(()),
+        _ => Ok(()),
     }
 }

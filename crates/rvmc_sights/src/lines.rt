@@ -5,22 +5,22 @@ ghost use Rattle.cl_calls.specs.Calls.{call_named};
 ghost use Rattle.cl_machine.specs.SameSteps.{kind_seen};
 ghost use Rattle.cl_state.specs.Asked.{asked};
 ghost use Rattle.cl_state.specs.Room.{rank_of};
-ghost use Rattle.rvmc_sights.specs.Lines.{box_met as box_asked, made_call_text, deed_text, done_text, hart_of, head_text};
-ghost use Rattle.rvmc_sights.specs.Lines.{box_in as box_in_ask, refused_text, sight_text};
+ghost use Rattle.rvmc_sights.specs.Lines.{box_in as box_in_ask, box_met as box_asked, called_text, deed_text, done_text};
+ghost use Rattle.rvmc_sights.specs.Lines.{hart_of, head_text, made_call_text, refused_text, sight_text};
 ghost use Rattle.rvmc_sights.specs.Seen.{IsAfter, IsSeenAfter, IsSeenBefore, seen};
 
 use crate::arguments::put_arguments;
 use crate::gave::{BoxNumber, is_refused, put_box, put_end, put_kind};
 use crate::instructions::put_instruction;
 use crate::rows::{write_decimal, write_word};
-use cl_calls::Call;
+use cl_calls::{Call, call_name, called_number};
 use cl_machine::{KindRef, Step};
 use cl_state::{Ask, RankState};
 use cl_trace::Bare;
 use rv_decode::Reg;
 use rv_hart::Hart;
 use rv_image_types::Symbol;
-use rvmc_inspect::{ClusterState, call_name};
+use rvmc_inspect::ClusterState;
 use rvmc_places::{has_overflowed, put_place};
 use rvmc_stats::code_name;
 use std::alloc::AllocError;
@@ -130,17 +130,16 @@ pub fn put_head(text: &mut Vec<u8>, place: u64, step: &Step) -> io::Result<()>
     Ok(())
 }
 
-/// Adds a refused call.
+/// Adds what stands behind the name of a refused call.
 fn put_refused(text: &mut Vec<u8>, call: &Call, after: &Hart) -> io::Result<()>
     ensures { OnOk result (text.new.items ≡ text.old.items ++ refused_text call.now after.now) }
 {
-    text.extend_from_slice(call_name(call).as_bytes())?;
     text.extend_from_slice(b" refused: ")?;
     text.extend_from_slice(code_name(after.get(Reg::new(10))).as_bytes())?;
     put_arguments(text, call)
 }
 
-/// Adds a call, and what it gave.
+/// Adds what stands behind the name of a call that wasn't refused: its arguments, and what it gave.
 fn put_done(
     text: &mut Vec<u8>,
     call: &Call,
@@ -150,17 +149,16 @@ fn put_done(
 ) -> io::Result<()>
     ensures { OnOk result (text.new.items ≡ text.old.items ++ done_text call.now (seen 0 step.now before.now after.now)) }
 {
-    text.extend_from_slice(call_name(call).as_bytes())?;
     put_arguments(text, call)?;
     put_box(text, before.asks)?;
     put_kind(text, step.kind())?;
     put_end(text, call, &after.hart)
 }
 
-/// Adds a call.
-fn put_call(text: &mut Vec<u8>, step: &Step, before: &Seen, after: &After) -> io::Result<()>
+/// Adds what stands behind the name of a call.
+fn put_called(text: &mut Vec<u8>, step: &Step, before: &Seen, after: &After) -> io::Result<()>
     ensures { OnOk result (text.new.items
-        ≡ text.old.items ++ made_call_text (call_named before.now.hart) (seen 0 step.now before.now after.now)) }
+        ≡ text.old.items ++ called_text (call_named before.now.hart) (seen 0 step.now before.now after.now)) }
 {
     let call = Call::of(&before.hart);
     if is_refused(&after.hart) {
@@ -168,6 +166,15 @@ fn put_call(text: &mut Vec<u8>, step: &Step, before: &Seen, after: &After) -> io
     } else {
         put_done(text, &call, step, before, after)
     }
+}
+
+/// Adds a call.
+fn put_call(text: &mut Vec<u8>, step: &Step, before: &Seen, after: &After) -> io::Result<()>
+    ensures { OnOk result (text.new.items
+        ≡ text.old.items ++ made_call_text (seen 0 step.now before.now after.now)) }
+{
+    text.extend_from_slice(call_name(called_number(&before.hart)).as_bytes())?;
+    put_called(text, step, before, after)
 }
 
 /// Adds what a step did.

@@ -9,11 +9,11 @@ use Rattle.mp_types.specs.declared.replies.Reply.TheVariants as reply
 use Rattle.rv_hart.specs.declared.state.Mode.{Mode}
 use Rattle.rv_hart.specs.declared.state.Mode.TheVariants.{Waiting}
 use Rattle.rv_hart.specs.declared.state.Wait.{Wait}
-use Rattle.cl_calls.specs.Calls.{call_named}
+use Rattle.cl_calls.specs.Calls.{argument}
 use Rattle.cl_trace.specs.declared.events.Kind.{Kind}
 use Rattle.rvmc_stats.specs.Hottest.{AreHottest, is_hotter}
 use Rattle.rvmc_stats.specs.Tallies.{capped, cell_at, count_at}
-use Rattle.rvmc_stats.specs.Counted.{Received, Taken, all_received, bytes_between, call_number, calls_made, is_call}
+use Rattle.rvmc_stats.specs.Counted.{Received, Taken, all_received, bytes_between, call_row, calls_made, is_call, rows_of_calls}
 use Rattle.rvmc_stats.specs.Counted.{is_from_to, is_made, is_turn_by, messages_by_kind, messages_of, outcome_place}
 use Rattle.rvmc_stats.specs.Counted.{received_by, received_in, size_in_bytes}
 use Rattle.rvmc_stats.specs.Laws.{FallingLaw, FirstLaw, IsOneMore, OwnRankLaw, PlainLaw, RefusedLaw, WaitingLaw, WholeMessageLaw}
@@ -68,7 +68,7 @@ module _ (ranks words : ℕ) (all : List Taken) (old : Tables) (t : Taken) (new 
       ∙ ap (λ b. capped (bytes_between (all_received all) from to + cond b (length m.bytes) 0)) (both_same from to)
 
   -- no call more of a number and an outcome
-  no_call : (number outcome : ℕ) → number < 45 → outcome < 21 → is_made number outcome t ≡ false
+  no_call : (number outcome : ℕ) → number < rows_of_calls → outcome < 21 → is_made number outcome t ≡ false
       → cell_at new.calls number outcome ≡ cell_at old.calls number outcome
   no_call number outcome number_there outcome_there none =
       (are_more.calls.each number number_there).each outcome outcome_there
@@ -101,14 +101,14 @@ other_place outcome other = grind (arith, common_steps)
 pub waiting : WaitingLaw
 waiting ranks words all old t new w more mode number outcome number_there outcome_there other =
     no_call ranks words all old t new more number outcome number_there outcome_there
-    (ap (λ (m : Mode). is_call t.step.kind && ((number == call_number (call_named t.before)) && (outcome == outcome_place t.after m))) mode
-    ∙ ap (λ b. is_call t.step.kind && ((number == call_number (call_named t.before)) && b)) (other_place outcome other)
-    ∙ none_after (is_call t.step.kind) (number == call_number (call_named t.before)))
+    (ap (λ (m : Mode). is_call t.step.kind && ((number == call_row (argument t.before 7)) && (outcome == outcome_place t.after m))) mode
+    ∙ ap (λ b. is_call t.step.kind && ((number == call_row (argument t.before 7)) && b)) (other_place outcome other)
+    ∙ none_after (is_call t.step.kind) (number == call_row (argument t.before 7)))
 
 pub plain : PlainLaw
 plain ranks words all old t new more kind number outcome number_there outcome_there =
     no_call ranks words all old t new more number outcome number_there outcome_there
-    (ap (λ (k : Kind). is_call k && ((number == call_number (call_named t.before)) && (outcome == outcome_place t.after t.after.mode))) kind)
+    (ap (λ (k : Kind). is_call k && ((number == call_row (argument t.before 7)) && (outcome == outcome_place t.after t.after.mode))) kind)
 
 -- ---- places
 

@@ -1,5 +1,5 @@
 -- What is counted of steps: each number is that of the steps, or of the messages, of which something holds.
-use Rattle.std.specs.Prelude.{ℕ, ◌*◌, ◌==◌, ◌&&◌, not, if◌then◌else◌, nat_lt, Bool, true, false, List, [], ◌∷◌, length}
+use Rattle.std.specs.Prelude.{ℕ, ◌+◌, ◌*◌, ◌==◌, ◌&&◌, not, if◌then◌else◌, nat_lt, Bool, true, false, List, [], ◌∷◌, length}
 use Rattle.std.specs.Prelude.{map, Option, Some, None}
 use Rattle.std.specs.List.{count_by, filter, filter_map, flat_map, sum_by}
 use Rattle.mp_types.specs.declared.messages.Message.{Message}
@@ -8,9 +8,8 @@ use Rattle.mp_types.specs.declared.replies.Reply.TheVariants as reply
 use Rattle.rv_hart.specs.State.{State, read}
 use Rattle.rv_hart.specs.declared.state.Mode.{Mode}
 use Rattle.rv_hart.specs.declared.state.Mode.TheVariants.{Running, Waiting, Ended, Trapped}
-use Rattle.cl_calls.specs.Calls.{call_named}
-use Rattle.cl_calls.specs.declared.calls.Call.{Call}
-use Rattle.cl_calls.specs.declared.calls.Call.TheVariants as call
+use Rattle.cl_calls.specs.Calls.{argument}
+use Rattle.cl_calls.specs.Names.{is_call_number, numbers_end}
 use Rattle.cl_trace.specs.declared.events.Kind.{Kind}
 use Rattle.cl_machine.specs.declared.steps.Step.{Step}
 
@@ -73,38 +72,13 @@ is_call Kind.Plain = false
 is_call Kind.Idle = false
 is_call _ = true
 
--- the number of a call, as docs/CALLS.md has it; behind them all, 44 where the number is no call's
-abbrev pub call_number : Call → ℕ
-call_number (call.Exit code) = 0
-call_number (call.Put buffer count) = 1
-call_number (call.Rank comm) = 2
-call_number (call.Size comm) = 3
-call_number call.Hart = 4
-call_number (call.Send s) = 16
-call_number (call.Ssend s) = 17
-call_number (call.Recv r status) = 18
-call_number (call.Isend s) = 19
-call_number (call.Issend s) = 20
-call_number (call.Irecv r) = 21
-call_number (call.Test c) = 22
-call_number (call.Wait c) = 23
-call_number (call.Iprobe p) = 24
-call_number (call.Probe p) = 25
-call_number (call.Improbe p) = 26
-call_number (call.Mprobe p) = 27
-call_number (call.Imrecv m) = 28
-call_number (call.Mrecv m status) = 29
-call_number (call.SendInit s) = 30
-call_number (call.RecvInit r) = 31
-call_number (call.Start handle) = 32
-call_number (call.RequestFree handle) = 33
-call_number (call.Testall s) = 34
-call_number (call.Waitall s) = 35
-call_number (call.PsendInit t) = 40
-call_number (call.PrecvInit t) = 41
-call_number (call.Pready handle part) = 42
-call_number (call.Parrived handle part) = 43
-call_number call.Unknown = 44
+-- the row of a call is its number; behind them all stands that of numbers which are no call's
+abbrev pub call_row : ℕ → ℕ
+call_row number = if is_call_number number then number else numbers_end
+
+-- so many rows
+abbrev pub rows_of_calls : ℕ
+rows_of_calls = numbers_end + 1
 
 -- how a call ended: with the code that it left in a0, from 0 to 16; with another number there, which none does; or its
 -- hart waits, and makes it again; or has ended; or has trapped, which no call does
@@ -120,7 +94,7 @@ outcome_place after (Trapped cause at) = 20
 abbrev pub is_made : ℕ → ℕ → Taken → Bool
 is_made number outcome taken =
     is_call taken.step.kind
-    && ((number == call_number (call_named taken.before)) && (outcome == outcome_place taken.after taken.after.mode))
+    && ((number == call_row (argument taken.before 7)) && (outcome == outcome_place taken.after taken.after.mode))
 
 -- how many turns made this call, and ended so
 abbrev pub calls_made : List Taken → ℕ → ℕ → ℕ

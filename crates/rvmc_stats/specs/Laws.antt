@@ -10,7 +10,7 @@ use Rattle.cl_trace.specs.declared.events.Kind.{Kind}
 use Rattle.rvmc_stats.specs.Hottest.{AreHottest}
 use Rattle.rvmc_stats.specs.Tallies.{capped, cell_at, count_at}
 use Rattle.rvmc_stats.specs.Adding.{Adds}
-use Rattle.rvmc_stats.specs.Counted.{Taken, all_received, bytes_between, taken_by, turns_of}
+use Rattle.rvmc_stats.specs.Counted.{Taken, all_received, bytes_between, rows_of_calls, taken_by, turns_of}
 use Rattle.rvmc_stats.specs.Tables.{AreOf}
 use Rattle.rvmc_stats.specs.Texts.{numbers_below}
 use Rattle.rvmc_stats.specs.declared.tables.Tables.{Tables}
@@ -52,13 +52,13 @@ WholeMessageLaw = (ranks words : ℕ) (all : List Taken) (old : Tables) (t : Tak
 -- a call whose hart waits ended with no code: it is counted in the column of those that wait, which is 18, alone
 abbrev pub WaitingLaw : Type 0
 WaitingLaw = (ranks words : ℕ) (all : List Taken) (old : Tables) (t : Taken) (new : Tables) (w : Wait)
-    → IsOneMore ranks words all old t new → t.after.mode ≡ Waiting w → (number outcome : ℕ) → number < 45
+    → IsOneMore ranks words all old t new → t.after.mode ≡ Waiting w → (number outcome : ℕ) → number < rows_of_calls
     → outcome < 21 → outcome ≢ 18 → cell_at new.calls number outcome ≡ cell_at old.calls number outcome
 
 -- and an instruction is no call
 abbrev pub PlainLaw : Type 0
 PlainLaw = (ranks words : ℕ) (all : List Taken) (old : Tables) (t : Taken) (new : Tables)
-    → IsOneMore ranks words all old t new → t.step.kind ≡ Kind.Plain → (number outcome : ℕ) → number < 45 → outcome < 21
+    → IsOneMore ranks words all old t new → t.step.kind ≡ Kind.Plain → (number outcome : ℕ) → number < rows_of_calls → outcome < 21
     → cell_at new.calls number outcome ≡ cell_at old.calls number outcome
 
 -- ---- the order of places

@@ -1,4 +1,4 @@
--- The names of the columns and of the rows of tables.
+-- The names of how calls end, which are the columns of their table.
 use Rattle.std.specs.Prelude.{ℕ, ◌==◌, if◌then◌else◌, List, [], ◌∷◌, ◌++◌, codes}
 
 -- the row of a number; where there is none, another name
@@ -37,40 +37,3 @@ other_outcome_rows = (18, codes "waits") ∷ (19, codes "ended") ∷ (20, codes 
 
 abbrev pub outcome_name : ℕ → List ℕ
 outcome_name place = name_in (code_name place) place other_outcome_rows
-
--- the calls, by their numbers, as docs/CALLS.md lists them
-abbrev pub call_name_rows : List (ℕ × List ℕ)
-call_name_rows =
-    (0, codes "EXIT") ∷
-    (1, codes "PUT") ∷
-    (2, codes "RANK") ∷
-    (3, codes "SIZE") ∷
-    (4, codes "HART") ∷
-    (16, codes "SEND") ∷
-    (17, codes "SSEND") ∷
-    (18, codes "RECV") ∷
-    (19, codes "ISEND") ∷
-    (20, codes "ISSEND") ∷
-    (21, codes "IRECV") ∷
-    (22, codes "TEST") ∷
-    (23, codes "WAIT") ∷
-    (24, codes "IPROBE") ∷
-    (25, codes "PROBE") ∷
-    (26, codes "IMPROBE") ∷
-    (27, codes "MPROBE") ∷
-    (28, codes "IMRECV") ∷
-    (29, codes "MRECV") ∷
-    (30, codes "SEND_INIT") ∷
-    (31, codes "RECV_INIT") ∷
-    (32, codes "START") ∷
-    (33, codes "REQUEST_FREE") ∷
-    (34, codes "TESTALL") ∷
-    (35, codes "WAITALL") ∷
-    (40, codes "PSEND_INIT") ∷
-    (41, codes "PRECV_INIT") ∷
-    (42, codes "PREADY") ∷
-    (43, codes "PARRIVED") ∷
-    []
-
-abbrev pub named_call : ℕ → List ℕ
-named_call number = name_in (codes "no call") number call_name_rows

@@ -3,7 +3,9 @@ use Rattle.std.specs.Prelude.{ℕ, ◌==◌, if◌then◌else◌, List, [], ◌�
 use Rattle.std.specs.Fmt.{decimal}
 use Rattle.std.specs.List.{flat_map, range_with_len}
 use Rattle.rvmc_stats.specs.Tallies.{cell_at, count_at}
-use Rattle.rvmc_stats.specs.Names.{named_call, outcome_name}
+use Rattle.cl_calls.specs.Names.{call_name}
+use Rattle.rvmc_stats.specs.Counted.{rows_of_calls}
+use Rattle.rvmc_stats.specs.Names.{outcome_name}
 use Rattle.rvmc_stats.specs.declared.mail.Mail.{Mail}
 use Rattle.rvmc_stats.specs.declared.tables.Tables.{Tables}
 
@@ -48,14 +50,14 @@ unfoldable pub call_line : Tables → ℕ → ℕ → List ℕ
 call_line tables number outcome =
     if (cell_at tables.calls number outcome == 0) then []
     else decimal (cell_at tables.calls number outcome)
-    ++ (codes " " ++ (named_call number ++ (codes " " ++ (outcome_name outcome ++ codes "\n"))))
+    ++ (codes " " ++ (call_name number ++ (codes " " ++ (outcome_name outcome ++ codes "\n"))))
 
 -- by the call's number and its code
 unfoldable pub call_lines : Tables → ℕ → List ℕ
 call_lines tables number = flat_map (call_line tables number) (numbers_below 21)
 
 abbrev pub all_call_lines : Tables → List ℕ
-all_call_lines tables = flat_map (call_lines tables) (numbers_below 45)
+all_call_lines tables = flat_map (call_lines tables) (numbers_below rows_of_calls)
 
 abbrev pub calls_table : Tables → List ℕ
 calls_table tables = calls_head ++ all_call_lines tables

@@ -1,17 +1,17 @@
 //! One step more in each table.
 
 ghost use Rattle.std.specs.Prelude.{◌≡◌, ◌/◌, ◌%◌, ◌==◌, ◌&&◌, if◌then◌else◌, not};
-ghost use Rattle.cl_calls.specs.Calls.{call_named};
-ghost use Rattle.rvmc_stats.specs.Counted.{call_number as call_number_of, is_call as is_call_of, is_stopped_turn as is_idle_of};
+ghost use Rattle.cl_calls.specs.Calls.{argument};
+ghost use Rattle.rvmc_stats.specs.Counted.{call_row as call_row_of, is_call as is_call_of, is_stopped_turn as is_idle_of};
 ghost use Rattle.rvmc_stats.specs.Counted.{is_wait as is_wait_of, kind_place as kind_place_of};
 ghost use Rattle.rvmc_stats.specs.Counted.{outcome_place as outcome_place_of};
 ghost use Rattle.rvmc_stats.specs.MoreAt.{added, added_in};
 
-use crate::calls::{call_number, outcome_place};
+use crate::calls::{call_row, outcome_place};
 use crate::grid::Grid;
 use crate::kinds::{is_call, is_idle, is_wait, kind_place};
 use crate::tally::Tally;
-use cl_calls::Call;
+use cl_calls::called_number;
 use cl_machine::Step;
 use rv_hart::Hart;
 
@@ -42,12 +42,11 @@ pub(crate) fn count_wait(waits: &mut Tally, step: &Step)
 pub(crate) fn count_call(calls: &mut Grid, step: &Step, before: &Hart, after: &Hart)
     ensures { calls.new
         ≡ (if is_call_of step.now.kind
-        then added_in calls.old (call_number_of (call_named before.now)) (outcome_place_of after.now after.now.mode) 1
+        then added_in calls.old (call_row_of (argument before.now 7)) (outcome_place_of after.now after.now.mode) 1
         else calls.old) }
 {
     if is_call(step.kind()) {
-        let call = Call::of(before);
-        calls.add(call_number(&call), outcome_place(after), 1);
+        calls.add(call_row(called_number(before)), outcome_place(after), 1);
     }
 }
 

@@ -6,8 +6,9 @@ ghost use Rattle.rvmc_stats.specs.Tallies.{count_at};
 ghost use Rattle.rvmc_stats.specs.Texts.{call_line, column_text, columns_text, pair_line, turn_line};
 
 use crate::mail::Mail;
-use crate::names::{named_call, outcome_name};
+use crate::names::outcome_name;
 use crate::tables::Tables;
+use cl_calls::call_name;
 use std::io;
 use std::io::Write;
 
@@ -71,7 +72,7 @@ pub(crate) fn put_call_line(
     if turns == 0 {
         return Ok(());
     }
-    let call = named_call(number);
+    let call = call_name(number as u64);
     let ended = outcome_name(outcome);
     write!(text, "{turns} {call} {ended}\n")
 }

@@ -1,8 +1,7 @@
-//! The names of calls and of how they end.
+//! The names of how calls end.
 
 ghost use Rattle.std.specs.Prelude.{◌≡◌};
-ghost use Rattle.rvmc_stats.specs.Names.{code_name as code_name_of, named_call as named_call_of};
-ghost use Rattle.rvmc_stats.specs.Names.{outcome_name as outcome_name_of};
+ghost use Rattle.rvmc_stats.specs.Names.{code_name as code_name_of, outcome_name as outcome_name_of};
 
 /// The name of the code that a call leaves in a0.
 pub fn code_name(number: u64) -> &'static str
@@ -39,43 +38,5 @@ pub(crate) fn outcome_name(place: usize) -> &'static str
         19 => "ended",
         20 => "trapped",
         _ => code_name(place as u64),
-    }
-}
-
-/// The name of the call of this number.
-pub(crate) fn named_call(number: usize) -> &'static str
-    ensures { result.now ≡ named_call_of number }
-{
-    match number {
-        0 => "EXIT",
-        1 => "PUT",
-        2 => "RANK",
-        3 => "SIZE",
-        4 => "HART",
-        16 => "SEND",
-        17 => "SSEND",
-        18 => "RECV",
-        19 => "ISEND",
-        20 => "ISSEND",
-        21 => "IRECV",
-        22 => "TEST",
-        23 => "WAIT",
-        24 => "IPROBE",
-        25 => "PROBE",
-        26 => "IMPROBE",
-        27 => "MPROBE",
-        28 => "IMRECV",
-        29 => "MRECV",
-        30 => "SEND_INIT",
-        31 => "RECV_INIT",
-        32 => "START",
-        33 => "REQUEST_FREE",
-        34 => "TESTALL",
-        35 => "WAITALL",
-        40 => "PSEND_INIT",
-        41 => "PRECV_INIT",
-        42 => "PREADY",
-        43 => "PARRIVED",
-        _ => "no call",
     }
 }

@@ -5,6 +5,7 @@ ghost use Rattle.rvmc_stats.specs.Counted.{taken_seen};
 ghost use Rattle.rvmc_stats.specs.Tables.{AreOf};
 ghost use Rattle.rvmc_stats.specs.Adding.{Adds};
 
+use crate::calls::CALL_ROWS;
 use crate::counting::{count_call, count_place, count_taken, count_turn, count_wait};
 use crate::grid::Grid;
 use crate::mail::Mail;
@@ -40,7 +41,7 @@ impl Tables {
             taken: Tally::new(alloc, ranks)?,
             waits: Tally::new(alloc, ranks)?,
             turns: Grid::new(alloc, ranks, 9)?,
-            calls: Grid::new(alloc, 45, 21)?,
+            calls: Grid::new(alloc, CALL_ROWS, 21)?,
             mail: Mail::new(alloc, ranks)?,
             places: Tally::new(alloc, words)?,
         })

@@ -4,6 +4,7 @@ ghost use Rattle.std.specs.Prelude.{◌≡◌, ◌++◌, OnOk};
 ghost use Rattle.rvmc_stats.specs.Texts.{all_call_lines, all_pair_lines, call_lines, calls_head, calls_table};
 ghost use Rattle.rvmc_stats.specs.Texts.{messages_head, messages_table, pair_lines, turn_lines, turns_head, turns_table};
 
+use crate::calls::CALL_ROWS;
 use crate::lines::{put_call_line, put_pair_line, put_turn_line};
 use crate::mail::Mail;
 use crate::tables::Tables;
@@ -51,7 +52,7 @@ fn put_call_lines(text: &mut Vec<u8>, tables: &Tables, number: usize) -> io::Res
 fn put_all_call_lines(text: &mut Vec<u8>, tables: &Tables) -> io::Result<()>
     ensures { OnOk result (text.new.items ≡ text.old.items ++ all_call_lines tables.now) }
 {
-    for number in 0..45 {
+    for number in 0..CALL_ROWS {
         put_call_lines(text, tables, number)?;
     }
     Ok(())

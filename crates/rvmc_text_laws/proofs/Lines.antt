@@ -11,7 +11,8 @@ use Rattle.rv_memory.specs.Memory.{Memory}
 use Rattle.mp_hub.specs.Hub.{HubView}
 use Rattle.mp_alike_laws.specs.Renaming.{Renaming}
 use Rattle.part_box.specs.declared.settled.Settled.{Settled}
-use Rattle.cl_calls.specs.Calls.{call_named}
+use Rattle.cl_calls.specs.Calls.{argument}
+use Rattle.cl_calls.specs.Names.{call_name}
 use Rattle.cl_state.specs.Rank.{Rank}
 use Rattle.cl_state.specs.Room.{rank_of}
 use Rattle.cl_state.specs.declared.state.RankState.{RankState}
@@ -19,7 +20,7 @@ use Rattle.cl_names_laws.specs.Named.{hart_by, mode_by}
 use Rattle.cl_order_laws.specs.Alike.{AlikeRanks}
 use Rattle.rvmc_inspect.specs.Below.{newline}
 use Rattle.rvmc_inspect.specs.declared.awaited.Wait.{Wait}
-use Rattle.rvmc_inspect.specs.Texts.{call_name, doing_text, hart_head, hart_line, hart_waits_text, has_ended, waiting_place, waiting_text, waits_text}
+use Rattle.rvmc_inspect.specs.Texts.{doing_text, hart_head, hart_line, hart_waits_text, has_ended, waiting_place, waiting_text, waits_text}
 use Rattle.rvmc_inspect.specs.Waits.{waits}
 use Rattle.rvmc_inspect.specs.Why.{ranks_from}
 use Rattle.rvmc_places.specs.Callers.{callers_text}
@@ -47,7 +48,7 @@ module _ (names : Renaming) (framed : Bool) (symbols : List Symbol) (memory : Me
   place_by : (whole : Bool) (hart : State)
       → waiting_place whole symbols memory (hart_by names hart) ≡ waiting_place whole symbols memory hart
   place_by true hart = refl
-  place_by false hart = own_by hart (call_name (call_named hart))
+  place_by false hart = own_by hart (call_name (argument hart 7))
 
   waiting_by : (hart : State) (found : List Wait)
       → waiting_text framed symbols memory (hart_by names hart) found ≡ waiting_text framed symbols memory hart found
