@@ -2,8 +2,11 @@
 #![tactic(auto)]
 
 mod explaining;
+mod runners;
 mod runs;
 mod stuck;
 mod waiting;
 
-pub use runs::{one, run};
+pub use runners::{NoThreads, Runner};
+pub use runs::one;
+pub use stuck::one_until_stuck;
