@@ -2,11 +2,11 @@
 #![tactic(auto)]
 
 mod explaining;
-mod runners;
 mod runs;
 mod stuck;
+mod threads;
 mod waiting;
 
-pub use runners::{NoThreads, Runner};
 pub use runs::one;
 pub use stuck::one_until_stuck;
+pub use threads::{MaybeThreads, NoThreads};

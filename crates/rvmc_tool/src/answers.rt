@@ -21,7 +21,7 @@ use rvmc_answers::faults::Fault;
 use rvmc_answers::listing::listing;
 use rvmc_answers::{Answer, End, Output, image_in};
 use rvmc_line::{CommandLine, ImageCommand};
-use rvmc_runs::{NoThreads, Runner, one, one_until_stuck};
+use rvmc_runs::{MaybeThreads, NoThreads, one, one_until_stuck};
 use rvmc_views::answer_of_record;
 use std::alloc::{AllocError, Global};
 use std::io::Write;
@@ -60,14 +60,14 @@ fn rewritten(alloc: Global, bytes: &[u8], source: bool) -> Result<Answer, Fault>
 }
 
 /// What a command makes of the image that it takes, if it takes it as it is: one case a command.
-fn made<R: Runner, E: Write>(
+fn made<R: MaybeThreads, E: Write>(
     rt: &R,
     alloc: Global,
     image: &Image,
     command: &ImageCommand,
     err: &mut E,
 ) -> Result<Answer, Fault>
-    requires threads { runs_threads command.now ≡ true → R.can_run }
+    requires threads { runs_threads command.now ≡ true → R.has_threads }
     requires kept { command.now ≢ asked.Asm true }
     ensures says { IfOk result (λ answer.
         Makes command.now image.now (output_bytes answer.output) (end_status answer.end)) }
@@ -129,7 +129,7 @@ fn made<R: Runner, E: Write>(
 
 /// What a command answers to the bytes that it takes an image from.
 #[tactic(auto, using(cl_lines::proofs::Behind::nothing_told))]
-fn answer_of_image<R: Runner, E: Write>(
+fn answer_of_image<R: MaybeThreads, E: Write>(
     rt: &R,
     alloc: Global,
     bytes: &[u8],
@@ -137,7 +137,7 @@ fn answer_of_image<R: Runner, E: Write>(
     command: &ImageCommand,
     err: &mut E,
 ) -> Result<Answer, Fault>
-    requires { runs_threads command.now ≡ true → R.can_run }
+    requires { runs_threads command.now ≡ true → R.has_threads }
     ensures says { IfOk result (λ answer.
         SaysOfImage source command.now bytes.now (output_bytes answer.output) (end_status answer.end)) }
     ensures whole { IfOk result (λ answer. IsWhole answer.end) }
@@ -161,14 +161,14 @@ fn answer_of_image<R: Runner, E: Write>(
 ///
 /// `run` waits for its threads, and what is promised of it holds if it returns. It also answers `Spawn` where a thread is
 /// refused, and `Unlike` where what the threads left doesn't fit together; both only where its plan is right.
-pub fn answer<R: Runner, E: Write>(
+pub fn answer<R: MaybeThreads, E: Write>(
     rt: &R,
     alloc: Global,
     line: &CommandLine,
     bytes: &[u8],
     err: &mut E,
 ) -> Result<Answer, Fault>
-    requires threads { needs_threads line.now ≡ true → R.can_run }
+    requires threads { needs_threads line.now ≡ true → R.has_threads }
     requires whole { is_written_as_made line.now ≡ false }
     ensures says { IfOk result (λ answer.
         Says line.now bytes.now (output_bytes answer.output) (end_status answer.end)) }

@@ -23,7 +23,7 @@ use rvmc_answers::input::{InputFault, read_input};
 use rvmc_answers::{Answer, End, Output};
 use rvmc_cli::parse;
 use rvmc_line::{CommandLine, ImageCommand, ParseFault, RecordCommand};
-use rvmc_runs::{NoThreads, Runner};
+use rvmc_runs::{MaybeThreads, NoThreads};
 use rvmc_views::Wanted;
 use std::alloc::Global;
 use std::io::{Read, Write};
@@ -149,7 +149,7 @@ fn tell<O: Write, E: Write>(
 
 /// Reads all of the input, and writes what a command line answers to it.
 #[tactic(auto, using(crate::proofs::Aloud::hint_alone, crate::proofs::Aloud::hint_behind))]
-fn answered<R: Runner, I: Read, O: Write, E: Write>(
+fn answered<R: MaybeThreads, I: Read, O: Write, E: Write>(
     rt: &R,
     alloc: Global,
     line: &CommandLine,
@@ -157,7 +157,7 @@ fn answered<R: Runner, I: Read, O: Write, E: Write>(
     out: &mut O,
     err: &mut E,
 ) -> u8
-    requires threads { needs_threads line.now ≡ true → R.can_run }
+    requires threads { needs_threads line.now ≡ true → R.has_threads }
     requires whole { is_written_as_made line.now ≡ false }
     ensures answers { (bytes : List ℕ) → I.remaining input.old ≡ Some bytes → result ≢ 6
         → Answers line.now bytes result (O.contents out.old) (O.contents out.new) }
@@ -178,7 +178,7 @@ fn answered<R: Runner, I: Read, O: Write, E: Write>(
 /// Does what a command line asks for. A session is answered as its input comes, and a list and a page are written step by
 /// step; what else is answered is read first, and written as a whole.
 #[tactic(auto, using(crate::proofs::Aloud::hint_alone))]
-fn obey<R: Runner, I: Read, O: Write, E: Write>(
+fn obey<R: MaybeThreads, I: Read, O: Write, E: Write>(
     rt: &R,
     alloc: Global,
     line: &CommandLine,
@@ -186,7 +186,7 @@ fn obey<R: Runner, I: Read, O: Write, E: Write>(
     out: &mut O,
     err: &mut E,
 ) -> u8
-    requires { needs_threads line.now ≡ true → R.can_run }
+    requires { needs_threads line.now ≡ true → R.has_threads }
     ensures answers { (bytes : List ℕ) → I.remaining input.old ≡ Some bytes → result ≢ 6
         → Answers line.now bytes result (O.contents out.old) (O.contents out.new) }
     ensures front { TakesAtMost 67112960 (I.remaining input.old) (I.remaining input.new) }

@@ -1,4 +1,4 @@
-//! What answers `run`: a runtime with threads, and nobody where there are none.
+//! Runtimes with threads, which answer `run`, and the one that has none.
 
 ghost use Rattle.std.specs.Prelude.{IfErr, IfOk};
 ghost use Rattle.cl_record.specs.Plans.{HasPlans};
@@ -20,10 +20,10 @@ use std::alloc::Global;
 use std::sync::Wait;
 use std::thread::Threads;
 
-/// What answers `run`: any runtime with threads.
-pub trait Runner {
-    // what has to hold before it is asked
-    ghost can_run: { Type 0 };
+/// A runtime that has threads, by which it answers `run`, or none.
+pub trait MaybeThreads {
+    // it has threads
+    ghost has_threads: { Type 0 };
 
     /// `run`: a run by the same plan for each rank, each rank on a thread of its own, to the end of its plans. A rank that is
     /// more than `lead` turns ahead is held back.
@@ -36,7 +36,7 @@ pub trait Runner {
         lead: u64,
         written: Written,
     ) -> Result<Answer, Fault>
-        requires { can_run }
+        requires { has_threads }
         ensures says { IfOk result (λ answer.
             IsRunAnswer image.now budget harts.now written (output_bytes answer.output) (end_status answer.end)) }
         ensures whole { IfOk result (λ answer. IsWhole answer.end) }
@@ -54,7 +54,7 @@ pub trait Runner {
         lead: u64,
         written: Written,
     ) -> Result<Answer, Fault>
-        requires { can_run }
+        requires { has_threads }
         ensures says { IfOk result (λ answer.
             IsThreadsUntilStuck image.now budget harts.now written (output_bytes answer.output) (end_status answer.end)) }
         ensures whole { IfOk result (λ answer. IsWhole answer.end) }
@@ -63,11 +63,11 @@ pub trait Runner {
             (ByPlans image.now budget harts.now (HasPlans image.now))) };
 }
 
-impl<R: Threads + Wait + Sync> Runner for R {
+impl<R: Threads + Wait + Sync> MaybeThreads for R {
     ghost use Rattle.std.specs.Thread.{IsSync};
 
-    // its threads share it
-    ghost can_run = { IsSync R.row };
+    // they share it
+    ghost has_threads = { IsSync R.row };
 
     fn run(
         &self,
@@ -96,12 +96,12 @@ impl<R: Threads + Wait + Sync> Runner for R {
     }
 }
 
-/// Where there are no threads, nobody may ask for a run.
+/// A runtime without threads, which nobody may ask for a run.
 #[derive(Clone, Copy)]
 pub struct NoThreads;
 
-impl Runner for NoThreads {
-    ghost can_run = { ⊥ };
+impl MaybeThreads for NoThreads {
+    ghost has_threads = { ⊥ };
 
     fn run(
         &self,
