@@ -16,9 +16,9 @@ use std::alloc::{AllocError, Global};
 /// as its steps are copied, so that only one of the two stands in memory while they are done again.
 pub(crate) fn why_of(
     alloc: Global,
-    framed: bool,
     image: &Image,
     left: Record,
+    framed: bool,
 ) -> Result<Vec<u8>, AllocError>
     requires { IsLeft image.now left }
     ensures { IfOk result (λ text. IsWhyOf framed image.now left text.items) }
@@ -36,15 +36,15 @@ pub(crate) fn why_of(
 /// The report of a record, and behind it what its harts wait for at the end.
 pub(crate) fn report_with_why(
     alloc: Global,
-    framed: bool,
     image: &Image,
     left: Record,
+    framed: bool,
 ) -> Result<Vec<u8>, AllocError>
     requires { IsLeft image.now left }
     ensures { IfOk result (λ text. IsReportWithWhy framed image.now left text.items) }
 {
     let mut text = report(alloc, &left)?;
-    let told = why_of(alloc, framed, image, left)?;
+    let told = why_of(alloc, image, left, framed)?;
     text.extend_from_slice(&told)?;
     Ok(text)
 }

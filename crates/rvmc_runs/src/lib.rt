@@ -4,6 +4,9 @@
 mod explaining;
 mod runs;
 mod stuck;
+mod threads;
 mod waiting;
 
-pub use runs::{one, run};
+pub use runs::one;
+pub use stuck::one_until_stuck;
+pub use threads::{MaybeThreads, NoThreads};

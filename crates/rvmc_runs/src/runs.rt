@@ -4,8 +4,8 @@ ghost use Rattle.std.specs.Prelude.{◌≡◌, IfErr, IfOk};
 ghost use Rattle.cl_record.specs.Plans.{ArePlans, HasPlans};
 ghost use Rattle.rv_image_types.specs.Image.{IsImage};
 ghost use Rattle.rvmc_answers.specs.Plans.{ByPlans, listed};
-ghost use Rattle.rvmc_runs.specs.Runs.{IsLeftByOne, IsLeftByThreads, IsRecordOf, IsRunBy, IsTextOf};
-ghost use Rattle.rvmc_runs.specs.Making.{IsAnyOne, IsAnyRun, IsLeft};
+ghost use Rattle.rvmc_runs.specs.Runs.{IsLeftByOne, IsLeftByThreads, IsOne, IsRecordOf, IsRunBy, IsTextOf};
+ghost use Rattle.rvmc_runs.specs.Making.{IsLeft};
 ghost use Rattle.rvmc_answers.specs.Ends.{end_status};
 ghost use Rattle.rvmc_answers.specs.Making.{IsRunFault, IsWhole};
 ghost use Rattle.rvmc_answers.specs.Outputs.{ends_by_budget, hides_a_wait, output_bytes};
@@ -13,7 +13,6 @@ ghost use Rattle.rvmc_runs.specs.Waiting.{is_spent, is_told_waiting};
 ghost use Rattle.rvmc_answers.specs.Below.{rank_ends, status_of};
 
 use crate::explaining::report_with_why;
-use crate::stuck::{one_until_stuck, run_until_stuck};
 use crate::waiting::{any_waits, is_spent};
 use cl_merge::merge;
 use cl_record::{Plan, Record};
@@ -73,7 +72,7 @@ fn output_of(
             }
         }
         Written::Why { frames } => {
-            let text = report_with_why(alloc, frames, image, left)?;
+            let text = report_with_why(alloc, image, left, frames)?;
             if spent {
                 Ok(Output::Spent(text))
             } else {
@@ -119,19 +118,17 @@ fn one_by(
     Ok(told(alloc, image, left, written)?)
 }
 
-/// `one`: a run by the same plan for each rank, all ranks on one thread, to the end of its plans or `until_stuck`.
+/// `one`: a run by the same plan for each rank, all ranks on one thread, to the end of its plans.
 pub fn one(
     alloc: Global,
     image: &Image,
     budget: u64,
     harts: &Option<Numbers>,
     ranks: &Option<Numbers>,
-    until_stuck: bool,
     written: Written,
 ) -> Result<Answer, Fault>
     ensures says { IfOk result (λ answer.
-        IsAnyOne until_stuck image.now budget harts.now ranks.now written (output_bytes answer.output)
-        (end_status answer.end)) }
+        IsOne image.now budget harts.now ranks.now written (output_bytes answer.output) (end_status answer.end)) }
     ensures whole { IfOk result (λ answer. IsWhole answer.end) }
     ensures fault { IfErr result (IsRunFault
         (ByPlans image.now budget harts.now (λ plans. ¬ (ArePlans image.now plans (listed ranks.now image.now.ranks))))
@@ -139,15 +136,11 @@ pub fn one(
 {
     let plans = plans_of(alloc, image, budget, harts)?;
     let order = listed(alloc, ranks, image.parts().ranks)?;
-    if until_stuck {
-        one_until_stuck(alloc, image, &plans, &order, budget, written)
-    } else {
-        one_by(alloc, image, &plans, &order, written)
-    }
+    one_by(alloc, image, &plans, &order, written)
 }
 
 /// A run by these plans with a thread for each rank, which is held back where it is more than `lead` turns ahead.
-fn run_by<R: Threads + Wait + Sync>(
+pub(crate) fn run_by<R: Threads + Wait + Sync>(
     rt: &R,
     alloc: Global,
     image: &Image,
@@ -164,30 +157,4 @@ fn run_by<R: Threads + Wait + Sync>(
     let pace = Pace::new(image.parts().ranks, lead);
     let left = run_threads(rt, alloc, image, plans, &pace)?;
     Ok(told(alloc, image, left, written)?)
-}
-
-/// `run`: a run by the same plan for each rank, each rank on a thread of its own, to the end of its plans or `until_stuck`.
-pub fn run<R: Threads + Wait + Sync>(
-    rt: &R,
-    alloc: Global,
-    image: &Image,
-    budget: u64,
-    harts: &Option<Numbers>,
-    lead: u64,
-    until_stuck: bool,
-    written: Written,
-) -> Result<Answer, Fault>
-    ensures says { IfOk result (λ answer.
-        IsAnyRun until_stuck image.now budget harts.now written (output_bytes answer.output) (end_status answer.end)) }
-    ensures whole { IfOk result (λ answer. IsWhole answer.end) }
-    ensures fault { IfErr result (IsRunFault
-        (ByPlans image.now budget harts.now (λ plans. ¬ (HasPlans image.now plans)))
-        (ByPlans image.now budget harts.now (HasPlans image.now))) }
-{
-    let plans = plans_of(alloc, image, budget, harts)?;
-    if until_stuck {
-        run_until_stuck(rt, alloc, image, &plans, lead, budget, written)
-    } else {
-        run_by(rt, alloc, image, &plans, lead, written)
-    }
 }

@@ -21,12 +21,10 @@ use rvmc_answers::faults::Fault;
 use rvmc_answers::listing::listing;
 use rvmc_answers::{Answer, End, Output, image_in};
 use rvmc_line::{CommandLine, ImageCommand};
-use rvmc_runs::{one, run};
+use rvmc_runs::{MaybeThreads, NoThreads, one, one_until_stuck};
 use rvmc_views::answer_of_record;
 use std::alloc::{AllocError, Global};
 use std::io::Write;
-use std::sync::Wait;
-use std::thread::Threads;
 
 /// The bytes of an image.
 fn written(alloc: Global, image: &Image) -> Result<Answer, AllocError>
@@ -50,14 +48,26 @@ fn listed(alloc: Global, image: &Image) -> Result<Answer, AllocError>
     Ok(Answer { output, end })
 }
 
-/// What a command makes of its image that needs no threads, and that takes the image as it is.
-fn made_of<E: Write>(
+/// `asm --from`: an image is taken from the bytes, and written in version 2.
+fn rewritten(alloc: Global, bytes: &[u8], source: bool) -> Result<Answer, Fault>
+    ensures says { IfOk result (λ answer.
+        SaysOfImage source (asked.Asm true) bytes.now (output_bytes answer.output) (end_status answer.end)) }
+    ensures whole { IfOk result (λ answer. IsWhole answer.end) }
+    ensures fault { IfErr result (IsImageFault source (asked.Asm true) bytes.now) }
+{
+    let image = image_in(alloc, source, bytes)?.into_version_two();
+    Ok(written(alloc, &image)?)
+}
+
+/// What a command makes of the image that it takes, if it takes it as it is: one case a command.
+fn made<R: MaybeThreads, E: Write>(
+    rt: &R,
     alloc: Global,
-    command: &ImageCommand,
     image: &Image,
+    command: &ImageCommand,
     err: &mut E,
 ) -> Result<Answer, Fault>
-    requires alone { runs_threads command.now ≡ false }
+    requires threads { runs_threads command.now ≡ true → R.has_threads }
     requires kept { command.now ≢ asked.Asm true }
     ensures says { IfOk result (λ answer.
         Makes command.now image.now (output_bytes answer.output) (end_status answer.end)) }
@@ -66,20 +76,32 @@ fn made_of<E: Write>(
     ensures progress { TellsProgress (asks_progress command.now) (E.contents err.old) (E.contents err.new) }
 {
     match command {
-        ImageCommand::Asm { from: false } => Ok(written(alloc, image)?),
+        ImageCommand::Asm { .. } => Ok(written(alloc, image)?),
         ImageCommand::Dis => Ok(listed(alloc, image)?),
+        ImageCommand::Run {
+            budget,
+            plan,
+            lead,
+            written,
+        } => rt.run(alloc, image, *budget, plan, *lead, *written),
+        ImageCommand::RunUntilStuck {
+            budget,
+            plan,
+            lead,
+            written,
+        } => rt.run_until_stuck(alloc, image, *budget, plan, *lead, *written),
         ImageCommand::One {
             budget,
             plan,
             order,
             written,
-        } => one(alloc, image, *budget, plan, order, false, *written),
+        } => one(alloc, image, *budget, plan, order, *written),
         ImageCommand::OneUntilStuck {
             budget,
             plan,
             order,
             written,
-        } => one(alloc, image, *budget, plan, order, true, *written),
+        } => one_until_stuck(alloc, image, *budget, plan, order, *written),
         ImageCommand::Explore {
             plan,
             states,
@@ -102,82 +124,69 @@ fn made_of<E: Write>(
         } => explore_from(
             alloc, image, start, *states, *turns, *record, *progress, err,
         ),
-        ImageCommand::Asm { from: true }
-        | ImageCommand::Run { .. }
-        | ImageCommand::RunUntilStuck { .. } => unreachable!(),
     }
 }
 
-/// What a command makes of its image that needs no threads.
-fn made<E: Write>(
-    alloc: Global,
-    command: &ImageCommand,
-    image: Image,
-    err: &mut E,
-) -> Result<Answer, Fault>
-    requires { runs_threads command.now ≡ false }
-    ensures says { IfOk result (λ answer.
-        Makes command.now image (output_bytes answer.output) (end_status answer.end)) }
-    ensures whole { IfOk result (λ answer. IsWhole answer.end) }
-    ensures fault { IfErr result (RefusesImage command.now image) }
-    ensures progress { TellsProgress (asks_progress command.now) (E.contents err.old) (E.contents err.new) }
-{
-    match command {
-        ImageCommand::Asm { from: true } => Ok(written(alloc, &image.into_version_two())?),
-        _ => made_of(alloc, command, &image, err),
-    }
-}
-
-/// What a command answers to its input that takes an image, and needs no threads.
+/// What a command answers to the bytes that it takes an image from.
 #[tactic(auto, using(cl_lines::proofs::Behind::nothing_told))]
-fn answer_of_image<E: Write>(
+fn answer_of_image<R: MaybeThreads, E: Write>(
+    rt: &R,
     alloc: Global,
+    bytes: &[u8],
     source: bool,
     command: &ImageCommand,
-    bytes: &[u8],
     err: &mut E,
 ) -> Result<Answer, Fault>
-    requires { runs_threads command.now ≡ false }
+    requires { runs_threads command.now ≡ true → R.has_threads }
     ensures says { IfOk result (λ answer.
         SaysOfImage source command.now bytes.now (output_bytes answer.output) (end_status answer.end)) }
     ensures whole { IfOk result (λ answer. IsWhole answer.end) }
     ensures fault { IfErr result (IsImageFault source command.now bytes.now) }
     ensures progress { TellsProgress (asks_progress command.now) (E.contents err.old) (E.contents err.new) }
 {
-    let image = image_in(alloc, source, bytes)?;
-    made(alloc, command, image, err)
-}
-
-/// Whether a command of an image needs threads: `run` does.
-fn runs_threads(command: &ImageCommand) -> bool
-    ensures { result ≡ runs_threads command.now }
-{
-    matches!(
-        command,
-        ImageCommand::Run { .. } | ImageCommand::RunUntilStuck { .. }
-    )
-}
-
-/// Whether a command needs threads.
-pub fn needs_threads(line: &CommandLine) -> bool
-    ensures { result ≡ needs_threads line.now }
-{
-    match line {
-        CommandLine::OfImage { command, .. } => runs_threads(command),
-        CommandLine::OfRecord(_)
-        | CommandLine::Session { .. }
-        | CommandLine::WordSession
-        | CommandLine::Join => false,
+    if let ImageCommand::Asm { from: true } = command {
+        return rewritten(alloc, bytes, source);
     }
+    let image = image_in(alloc, source, bytes)?;
+    made(rt, alloc, &image, command, err)
 }
 
-/// What a command that needs no threads answers to its input.
+/// What a command line answers to its input, if that is answered as a whole.
 ///
 /// A fault of the input is an `Err`, as want of memory is: the first fault of the source, the image or the record,
 /// `Plans` where a run's plan or order is wrong, or the fault for which a command tells nothing of a record's steps. A
 /// word of `debug` that is refused is no such `Err`: the answer has the texts of the words before it, and is cut short
 /// by the fault. A session answers as its input comes, and a list is written as it is made: not here. A search that is asked
 /// for lines that say how far it came writes them on `err`.
+///
+/// `run` waits for its threads, and what is promised of it holds if it returns. It also answers `Spawn` where a thread is
+/// refused, and `Unlike` where what the threads left doesn't fit together; both only where its plan is right.
+pub fn answer<R: MaybeThreads, E: Write>(
+    rt: &R,
+    alloc: Global,
+    line: &CommandLine,
+    bytes: &[u8],
+    err: &mut E,
+) -> Result<Answer, Fault>
+    requires threads { needs_threads line.now ≡ true → R.has_threads }
+    requires whole { is_written_as_made line.now ≡ false }
+    ensures says { IfOk result (λ answer.
+        Says line.now bytes.now (output_bytes answer.output) (end_status answer.end)) }
+    ensures ends { IfOk result (λ answer. EndsSo line.now bytes.now (output_bytes answer.output) answer.end) }
+    ensures fault { IfErr result (IsFaultOf line.now bytes.now) }
+    ensures progress { TellsProgress (wants_progress line.now) (E.contents err.old) (E.contents err.new) }
+{
+    match line {
+        CommandLine::OfImage { source, command } => answer_of_image(
+            rt, alloc, bytes, *source, command, err,
+        ),
+        CommandLine::OfRecord(command) => answer_of_record(alloc, bytes, command),
+        // of the others `Join` alone is answered as a whole
+        _ => join(alloc, bytes),
+    }
+}
+
+/// What a command line that needs no threads answers to its input, with the same faults.
 pub fn answer_to<E: Write>(
     alloc: Global,
     line: &CommandLine,
@@ -192,111 +201,5 @@ pub fn answer_to<E: Write>(
     ensures fault { IfErr result (IsFaultOf line.now bytes.now) }
     ensures progress { TellsProgress (wants_progress line.now) (E.contents err.old) (E.contents err.new) }
 {
-    match line {
-        CommandLine::OfImage { source, command } => answer_of_image(
-            alloc, *source, command, bytes, err,
-        ),
-        CommandLine::OfRecord(command) => answer_of_record(alloc, command, bytes),
-        CommandLine::Join => join(alloc, bytes),
-        CommandLine::Session { .. } | CommandLine::WordSession => unreachable!(),
-    }
-}
-
-/// What a command makes of its image by threads.
-fn made_by_threads<R: Threads + Wait + Sync>(
-    rt: &R,
-    alloc: Global,
-    command: &ImageCommand,
-    image: &Image,
-) -> Result<Answer, Fault>
-    requires { runs_threads command.now ≡ true }
-    ensures says { IfOk result (λ answer.
-        Makes command.now image.now (output_bytes answer.output) (end_status answer.end)) }
-    ensures whole { IfOk result (λ answer. IsWhole answer.end) }
-    ensures fault { IfErr result (RefusesImage command.now image.now) }
-{
-    match command {
-        ImageCommand::Run {
-            budget,
-            plan,
-            lead,
-            written,
-        } => run(rt, alloc, image, *budget, plan, *lead, false, *written),
-        ImageCommand::RunUntilStuck {
-            budget,
-            plan,
-            lead,
-            written,
-        } => run(rt, alloc, image, *budget, plan, *lead, true, *written),
-        _ => unreachable!(),
-    }
-}
-
-/// What a command that needs threads answers to its input.
-fn answer_by_threads<R: Threads + Wait + Sync>(
-    rt: &R,
-    alloc: Global,
-    command: &ImageCommand,
-    source: bool,
-    bytes: &[u8],
-) -> Result<Answer, Fault>
-    requires { runs_threads command.now ≡ true }
-    ensures says { IfOk result (λ answer.
-        SaysOfImage source command.now bytes.now (output_bytes answer.output) (end_status answer.end)) }
-    ensures whole { IfOk result (λ answer. IsWhole answer.end) }
-    ensures fault { IfErr result (IsImageFault source command.now bytes.now) }
-{
-    let image = image_in(alloc, source, bytes)?;
-    made_by_threads(rt, alloc, command, &image)
-}
-
-/// What any command answers to its input that takes an image.
-fn answer_of_image_with_threads<R: Threads + Wait + Sync, E: Write>(
-    rt: &R,
-    alloc: Global,
-    source: bool,
-    command: &ImageCommand,
-    bytes: &[u8],
-    err: &mut E,
-) -> Result<Answer, Fault>
-    ensures says { IfOk result (λ answer.
-        SaysOfImage source command.now bytes.now (output_bytes answer.output) (end_status answer.end)) }
-    ensures whole { IfOk result (λ answer. IsWhole answer.end) }
-    ensures fault { IfErr result (IsImageFault source command.now bytes.now) }
-    ensures progress { TellsProgress (asks_progress command.now) (E.contents err.old) (E.contents err.new) }
-{
-    if runs_threads(command) {
-        answer_by_threads(rt, alloc, command, source, bytes)
-    } else {
-        answer_of_image(alloc, source, command, bytes, err)
-    }
-}
-
-/// What any command answers to its input. It waits for the threads of `run`, and what it promises holds if it returns.
-///
-/// Beside the faults of `answer_to`, `run` answers `Spawn` where a thread is refused, and `Unlike` where what the
-/// threads left doesn't fit together; both only where its plan is right.
-pub fn answer_with_threads<R: Threads + Wait + Sync, E: Write>(
-    rt: &R,
-    alloc: Global,
-    line: &CommandLine,
-    bytes: &[u8],
-    err: &mut E,
-) -> Result<Answer, Fault>
-    requires whole { is_written_as_made line.now ≡ false }
-    ensures says { IfOk result (λ answer.
-        Says line.now bytes.now (output_bytes answer.output) (end_status answer.end)) }
-    ensures ends { IfOk result (λ answer. EndsSo line.now bytes.now (output_bytes answer.output) answer.end) }
-    ensures fault { IfErr result (IsFaultOf line.now bytes.now) }
-    ensures progress { TellsProgress (wants_progress line.now) (E.contents err.old) (E.contents err.new) }
-{
-    match line {
-        CommandLine::OfImage { source, command } => {
-            answer_of_image_with_threads(rt, alloc, *source, command, bytes, err)
-        }
-        CommandLine::OfRecord(_)
-        | CommandLine::Join
-        | CommandLine::Session { .. }
-        | CommandLine::WordSession => answer_to(alloc, line, bytes, err),
-    }
+    answer(&NoThreads, alloc, line, bytes, err)
 }

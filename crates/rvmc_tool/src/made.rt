@@ -67,7 +67,7 @@ pub(crate) fn listed<I: Read, O: Write, E: Write>(
     match take(alloc, input, err) {
         Ok(bytes) => {
             let whole = bytes.as_slice();
-            let listed = put_list(alloc, wanted, whole, out);
+            let listed = put_list(alloc, whole, wanted, out);
             tell_made(alloc, line, whole, listed, out, err)
         }
         Err(status) => status,
@@ -77,11 +77,11 @@ pub(crate) fn listed<I: Read, O: Write, E: Write>(
 /// `page`: a record is read, and sources behind it, and a page of both is written, piece by piece.
 #[tactic(auto, using(rvmc_advice::proofs::Quiet::hinted_behind))]
 pub(crate) fn paged<I: Read, O: Write, E: Write>(
+    alloc: Global,
+    line: &CommandLine,
     from: u64,
     to: Option<u64>,
     texts: &SourceSizes,
-    alloc: Global,
-    line: &CommandLine,
     input: &mut I,
     out: &mut O,
     err: &mut E,
@@ -94,7 +94,7 @@ pub(crate) fn paged<I: Read, O: Write, E: Write>(
     match take(alloc, input, err) {
         Ok(bytes) => {
             let whole = bytes.as_slice();
-            let paged = put_page(from, to, texts, alloc, whole, out);
+            let paged = put_page(alloc, whole, from, to, texts, out);
             tell_made(alloc, line, whole, paged, out, err)
         }
         Err(status) => status,

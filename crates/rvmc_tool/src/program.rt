@@ -14,7 +14,7 @@ ghost use Rattle.rvmc_tool.specs.Progress.{TellsQuietly, want_progress, wants_pr
 ghost use Rattle.rvmc_hints.specs.HintLines.{AppendsHint};
 ghost use Rattle.rvmc_answers.specs.Below.{TakesAtMost};
 
-use crate::answers::{answer_to, answer_with_threads, needs_threads};
+use crate::answers::answer;
 use crate::made::{listed, paged};
 use crate::sessions::{served, served_words};
 use rvmc_advice::{fail, fail_to_read, fail_with_hint, hint_words, tell_run_hint};
@@ -22,7 +22,8 @@ use rvmc_answers::faults::Fault;
 use rvmc_answers::input::{InputFault, read_input};
 use rvmc_answers::{Answer, End, Output};
 use rvmc_cli::parse;
-use rvmc_line::{CommandLine, ParseFault, RecordCommand};
+use rvmc_line::{CommandLine, ImageCommand, ParseFault, RecordCommand};
+use rvmc_runs::{MaybeThreads, NoThreads};
 use rvmc_views::Wanted;
 use std::alloc::Global;
 use std::io::{Read, Write};
@@ -37,7 +38,7 @@ fn put<W: Write>(out: &mut W, text: &[u8]) -> bool
 }
 
 /// Writes a text on standard output with this status, or else tells that a write failed.
-fn finish<O: Write, E: Write>(out: &mut O, err: &mut E, text: &[u8], status: u8) -> u8
+fn finish<O: Write, E: Write>(text: &[u8], status: u8, out: &mut O, err: &mut E) -> u8
     ensures written { result ≢ 6 → Appends (O.contents out.old) (O.contents out.new) text.now }
     ensures status { result ≢ 6 → result ≡ status }
     ensures quiet { is_quiet result ≡ true → Keeps (E.contents err.old) (E.contents err.new) }
@@ -67,9 +68,9 @@ fn ended_with_hint<E: Write>(
     alloc: Global,
     line: &CommandLine,
     output: &Output,
-    err: &mut E,
     taken: bool,
     status: u8,
+    err: &mut E,
 ) -> u8
     ensures taken { result ≢ 6 → taken ≡ true }
     ensures status { result ≢ 6 → result ≡ status }
@@ -117,7 +118,7 @@ fn tell_answer<O: Write, E: Write>(
 {
     let taken = put_output(out, &answer.output);
     match answer.end {
-        End::Status(status) => { ended_with_hint(alloc, line, &answer.output, err, taken, status) }
+        End::Status(status) => { ended_with_hint(alloc, line, &answer.output, taken, status, err) }
         End::Cut(fault) => {
             if taken {
                 fail_with_hint(alloc, line, bytes, fault, err)
@@ -146,32 +147,51 @@ fn tell<O: Write, E: Write>(
     }
 }
 
-/// Whether a command's answer is written as it is made: that of a session as its input comes, and of a list and a page step
-/// by step.
-fn is_written_as_made(line: &CommandLine) -> bool
-    ensures { result ≡ is_written_as_made line.now }
-{
-    matches!(
-        line,
-        CommandLine::Session { .. }
-            | CommandLine::WordSession
-            | CommandLine::OfRecord(RecordCommand::List { .. } | RecordCommand::Page { .. })
-    )
-}
-
-/// Does what such a command asks for.
-fn obey_by_pieces<I: Read, O: Write, E: Write>(
+/// Reads all of the input, and writes what a command line answers to it.
+#[tactic(auto, using(crate::proofs::Aloud::hint_alone, crate::proofs::Aloud::hint_behind))]
+fn answered<R: MaybeThreads, I: Read, O: Write, E: Write>(
+    rt: &R,
     alloc: Global,
     line: &CommandLine,
     input: &mut I,
     out: &mut O,
     err: &mut E,
 ) -> u8
-    requires { is_written_as_made line.now ≡ true }
+    requires threads { needs_threads line.now ≡ true → R.has_threads }
+    requires whole { is_written_as_made line.now ≡ false }
     ensures answers { (bytes : List ℕ) → I.remaining input.old ≡ Some bytes → result ≢ 6
         → Answers line.now bytes result (O.contents out.old) (O.contents out.new) }
     ensures front { TakesAtMost 67112960 (I.remaining input.old) (I.remaining input.new) }
-    ensures quiet { is_quiet result ≡ true → AppendsHint (E.contents err.old) (E.contents err.new) }
+    ensures quiet { is_quiet result ≡ true
+        → TellsQuietly (wants_progress line.now) (E.contents err.old) (E.contents err.new) }
+{
+    match take(alloc, input, err) {
+        Ok(bytes) => {
+            let whole = bytes.as_slice();
+            let answer = answer(rt, alloc, line, whole, err);
+            tell(alloc, line, whole, answer, out, err)
+        }
+        Err(status) => status,
+    }
+}
+
+/// Does what a command line asks for. A session is answered as its input comes, and a list and a page are written step by
+/// step; what else is answered is read first, and written as a whole.
+#[tactic(auto, using(crate::proofs::Aloud::hint_alone))]
+fn obey<R: MaybeThreads, I: Read, O: Write, E: Write>(
+    rt: &R,
+    alloc: Global,
+    line: &CommandLine,
+    input: &mut I,
+    out: &mut O,
+    err: &mut E,
+) -> u8
+    requires { needs_threads line.now ≡ true → R.has_threads }
+    ensures answers { (bytes : List ℕ) → I.remaining input.old ≡ Some bytes → result ≢ 6
+        → Answers line.now bytes result (O.contents out.old) (O.contents out.new) }
+    ensures front { TakesAtMost 67112960 (I.remaining input.old) (I.remaining input.new) }
+    ensures quiet { is_quiet result ≡ true
+        → TellsQuietly (wants_progress line.now) (E.contents err.old) (E.contents err.new) }
 {
     match line {
         CommandLine::Session { rank } => served(alloc, line, *rank, input, out, err),
@@ -193,67 +213,9 @@ fn obey_by_pieces<I: Read, O: Write, E: Write>(
             listed(alloc, line, &wanted, input, out, err)
         }
         CommandLine::OfRecord(RecordCommand::Page { from, to, texts }) => {
-            paged(*from, *to, texts, alloc, line, input, out, err)
+            paged(alloc, line, *from, *to, texts, input, out, err)
         }
-        _ => unreachable!(),
-    }
-}
-
-/// Does what a command line asks for that needs no threads.
-#[tactic(auto, using(crate::proofs::Aloud::hint_alone, crate::proofs::Aloud::hint_behind))]
-fn obey<I: Read, O: Write, E: Write>(
-    line: &CommandLine,
-    alloc: Global,
-    input: &mut I,
-    out: &mut O,
-    err: &mut E,
-) -> u8
-    requires { needs_threads line.now ≡ false }
-    ensures answers { (bytes : List ℕ) → I.remaining input.old ≡ Some bytes → result ≢ 6
-        → Answers line.now bytes result (O.contents out.old) (O.contents out.new) }
-    ensures front { TakesAtMost 67112960 (I.remaining input.old) (I.remaining input.new) }
-    ensures quiet { is_quiet result ≡ true
-        → TellsQuietly (wants_progress line.now) (E.contents err.old) (E.contents err.new) }
-{
-    if is_written_as_made(line) {
-        return obey_by_pieces(alloc, line, input, out, err);
-    }
-    match take(alloc, input, err) {
-        Ok(bytes) => {
-            let whole = bytes.as_slice();
-            let answer = answer_to(alloc, line, whole, err);
-            tell(alloc, line, whole, answer, out, err)
-        }
-        Err(status) => status,
-    }
-}
-
-/// Does what any command line asks for.
-#[tactic(auto, using(crate::proofs::Aloud::hint_alone, crate::proofs::Aloud::hint_behind))]
-fn obey_with_threads<R: Threads + Wait + Sync, I: Read, O: Write, E: Write>(
-    rt: &R,
-    alloc: Global,
-    line: &CommandLine,
-    input: &mut I,
-    out: &mut O,
-    err: &mut E,
-) -> u8
-    ensures answers { (bytes : List ℕ) → I.remaining input.old ≡ Some bytes → result ≢ 6
-        → Answers line.now bytes result (O.contents out.old) (O.contents out.new) }
-    ensures front { TakesAtMost 67112960 (I.remaining input.old) (I.remaining input.new) }
-    ensures quiet { is_quiet result ≡ true
-        → TellsQuietly (wants_progress line.now) (E.contents err.old) (E.contents err.new) }
-{
-    if is_written_as_made(line) {
-        return obey_by_pieces(alloc, line, input, out, err);
-    }
-    match take(alloc, input, err) {
-        Ok(bytes) => {
-            let whole = bytes.as_slice();
-            let answer = answer_with_threads(rt, alloc, line, whole, err);
-            tell(alloc, line, whole, answer, out, err)
-        }
-        Err(status) => status,
+        _ => answered(rt, alloc, line, input, out, err),
     }
 }
 
@@ -283,9 +245,22 @@ fn show<O: Write, E: Write>(
 {
     match fault {
         ParseFault::Memory => fail(err, Fault::Memory),
-        ParseFault::Asked(text) => finish(out, err, text.as_bytes(), 0),
+        ParseFault::Asked(text) => finish(text.as_bytes(), 0, out, err),
         ParseFault::Refused(text) => refuse(alloc, words, text, err),
     }
+}
+
+/// Whether a command line needs threads: `run` does.
+fn needs_threads(line: &CommandLine) -> bool
+    ensures { result ≡ needs_threads line.now }
+{
+    matches!(
+        line,
+        CommandLine::OfImage {
+            command: ImageCommand::Run { .. } | ImageCommand::RunUntilStuck { .. },
+            ..
+        }
+    )
 }
 
 /// Refuses a command that needs threads.
@@ -298,6 +273,30 @@ fn refuse_threads<E: Write>(err: &mut E) -> u8
         2
     } else {
         Fault::Write.status()
+    }
+}
+
+/// Does what a command line asks for that needs no threads, and refuses any other before it reads.
+fn obey_plain<I: Read, O: Write, E: Write>(
+    alloc: Global,
+    line: &CommandLine,
+    input: &mut I,
+    out: &mut O,
+    err: &mut E,
+) -> u8
+    ensures answers { (bytes : List ℕ) → needs_threads line.now ≡ false → I.remaining input.old ≡ Some bytes → result ≢ 6
+        → Answers line.now bytes result (O.contents out.old) (O.contents out.new) }
+    ensures refuses { needs_threads line.now ≡ true → result ≢ 6
+        → (result ≡ 2) × Keeps (O.contents out.old) (O.contents out.new) }
+    ensures unread { needs_threads line.now ≡ true → Keeps (I.remaining input.old) (I.remaining input.new) }
+    ensures front { TakesAtMost 67112960 (I.remaining input.old) (I.remaining input.new) }
+    ensures quiet { is_quiet result ≡ true → (needs_threads line.now ≡ false)
+        × TellsQuietly (wants_progress line.now) (E.contents err.old) (E.contents err.new) }
+{
+    if needs_threads(line) {
+        refuse_threads(err)
+    } else {
+        obey(&NoThreads, alloc, line, input, out, err)
     }
 }
 
@@ -336,7 +335,7 @@ pub fn tool<'a, R: Threads + Wait + Sync, I: Read, O: Write, E: Write>(
         → TellsQuietly (want_progress (meaning_of (map (λ w. w.now) words.entry.now))) (E.contents err.old) (E.contents err.new) }
 {
     match parse(alloc, words) {
-        Ok(line) => obey_with_threads(rt, alloc, &line, input, out, err),
+        Ok(line) => obey(rt, alloc, &line, input, out, err),
         Err(fault) => show(alloc, words, &fault, out, err),
     }
 }
@@ -367,13 +366,7 @@ pub fn tool_plain<'a, I: Read, O: Write, E: Write>(
         → TellsQuietly (want_progress (plain_meaning_of (map (λ w. w.now) words.entry.now))) (E.contents err.old) (E.contents err.new) }
 {
     match parse(alloc, words) {
-        Ok(line) => {
-            if needs_threads(&line) {
-                refuse_threads(err)
-            } else {
-                obey(&line, alloc, input, out, err)
-            }
-        }
+        Ok(line) => obey_plain(alloc, &line, input, out, err),
         Err(fault) => show(alloc, words, &fault, out, err),
     }
 }

@@ -28,9 +28,9 @@ fn end_of(fault: Option<DebugFault>) -> End
 /// word is done: steps that are no run of their image are a fault of the input.
 pub(crate) fn debugged(
     alloc: Global,
-    words: &DebugWords,
     image: Image,
     steps: Vec<Step>,
+    words: &DebugWords,
 ) -> Result<Answer, Fault>
     ensures tells { IfOk result (λ answer.
         IsDebugged image steps.items words.now (output_bytes answer.output) answer.end) }

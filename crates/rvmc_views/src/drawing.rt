@@ -20,10 +20,10 @@ use std::alloc::Global;
 /// What is drawn of the steps from one place to another, or why nothing is.
 fn drawn(
     alloc: Global,
-    from: u64,
-    to: Option<u64>,
     image: &Image,
     steps: &[Step],
+    from: u64,
+    to: Option<u64>,
 ) -> Result<Drawing, Fault>
     ensures is { IfOk result (λ picture. IsDrawing image.now steps.now (view_of from to steps.now) picture) }
     ensures fault { IfErr result (IsStepsFault (command.Draw from to) image.now steps.now) }
@@ -41,16 +41,16 @@ fn drawn(
 /// picture may have are faults of the input.
 pub(crate) fn pictured(
     alloc: Global,
-    from: u64,
-    to: Option<u64>,
     image: &Image,
     steps: &[Step],
+    from: u64,
+    to: Option<u64>,
 ) -> Result<Answer, Fault>
     ensures tells { IfOk result (λ answer.
         IsPicture image.now steps.now from to (output_bytes answer.output) × (answer.end ≡ Status 0)) }
     ensures fault { IfErr result (IsStepsFault (command.Draw from to) image.now steps.now) }
 {
-    let picture = drawn(alloc, from, to, image, steps)?;
+    let picture = drawn(alloc, image, steps, from, to)?;
     // nothing but memory is refused where a text is put together
     let Ok(text) = svg(alloc, &picture) else {
         return Err(Fault::Memory);

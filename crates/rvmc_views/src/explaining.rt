@@ -15,7 +15,7 @@ use rvmc_answers::{Answer, told_at};
 use std::alloc::Global;
 
 /// The place of which `why` tells: so many steps are done, or all.
-fn place_in(at: Option<u64>, steps: &[Step]) -> u64
+fn place_in(steps: &[Step], at: Option<u64>) -> u64
     ensures { result ≡ place_asked at steps.now }
 {
     match at {
@@ -28,17 +28,17 @@ fn place_in(at: Option<u64>, steps: &[Step]) -> u64
 /// there, or before which a step is wrong, is a fault of the input.
 pub(crate) fn explained(
     alloc: Global,
-    at: Option<u64>,
-    framed: bool,
     image: &Image,
     steps: &[Step],
+    at: Option<u64>,
+    framed: bool,
 ) -> Result<Answer, Fault>
     ensures tells { IfOk result (λ answer.
         IsWhyAt framed image.now steps.now (place_asked at steps.now) (output_bytes answer.output)
         × (answer.end ≡ Status 0)) }
     ensures fault { IfErr result (IsStepsFault (command.Why at framed) image.now steps.now) }
 {
-    let place = place_in(at, steps);
+    let place = place_in(steps, at);
     let text = told_at(alloc, framed, image, steps, place)?;
     Ok(Answer::done(text))
 }

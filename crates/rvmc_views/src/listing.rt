@@ -36,8 +36,8 @@ fn refused(fault: ListFault) -> Fault
 #[tactic(auto, using(crate::proofs::Lists::left, crate::proofs::Lists::list_fault, crate::proofs::Lists::listed, crate::proofs::Left::unread_left, crate::proofs::Readings::of_steps, crate::proofs::Readings::unread))]
 pub fn put_list<O: Write>(
     alloc: Global,
-    wanted: &Wanted,
     bytes: &[u8],
+    wanted: &Wanted,
     out: &mut O,
 ) -> Result<bool, Fault>
     ensures listed { IfOk result (λ taken. taken ≡ true
@@ -54,11 +54,11 @@ pub fn put_list<O: Write>(
 #[tactic(auto, using(crate::proofs::Lists::stats_fault))]
 pub(crate) fn counted_steps(
     alloc: Global,
+    image: &Image,
+    steps: &[Step],
     from: u64,
     to: Option<u64>,
     rank: Option<u64>,
-    image: &Image,
-    steps: &[Step],
 ) -> Result<Answer, Fault>
     ensures tells { IfOk result (λ answer.
         IsStats image.now steps.now (counted_of from to rank) (output_bytes answer.output) × (answer.end ≡ Status 0)) }

@@ -16,7 +16,7 @@ use std::alloc::{AllocError, Global};
 use std::io::Write;
 
 /// How many of so many bytes stand before those of the sources.
-fn left(texts: &[SourceSize], count: u64) -> u64
+fn left(count: u64, texts: &[SourceSize]) -> u64
     ensures is { result ≡ count - size_of_all texts.now }
     ensures few { result ≤ count }
 {
@@ -28,11 +28,11 @@ fn left(texts: &[SourceSize], count: u64) -> u64
 }
 
 /// The bytes before those of the sources, and theirs.
-fn split<'a>(texts: &[SourceSize], bytes: &'a [u8]) -> (&'a [u8], &'a [u8])
+fn split<'a>(bytes: &'a [u8], texts: &[SourceSize]) -> (&'a [u8], &'a [u8])
     ensures before { result.0.now ≡ take (length bytes.now - size_of_all texts.now) bytes.now }
     ensures behind { result.1.now ≡ drop (length bytes.now - size_of_all texts.now) bytes.now }
 {
-    bytes.split_at(left(texts, bytes.len() as u64) as usize)
+    bytes.split_at(left(bytes.len() as u64, texts) as usize)
 }
 
 /// The bytes of a source, and those behind it. Where there are fewer, they are all its own.
@@ -46,8 +46,8 @@ fn cut(bytes: &[u8], size: u64) -> (&[u8], &[u8])
 /// The sources, whose bytes stand one behind the other.
 fn sources<'a>(
     alloc: Global,
-    texts: &'a [SourceSize],
     bytes: &'a [u8],
+    texts: &'a [SourceSize],
 ) -> Result<Vec<SourceText<'a>>, AllocError>
     ensures { IfOk result (λ sources. map source_of sources.items ≡ sources_in texts.now bytes.now) }
 {
@@ -79,11 +79,11 @@ fn refused(fault: PageFault) -> Fault
 /// it, and says whether the writer took all of it. A place that isn't there, and a wrong step, are faults of the input.
 #[tactic(auto, using(crate::proofs::Pages::left, crate::proofs::Pages::page_fault, crate::proofs::Pages::paged, crate::proofs::Left::unread_left, crate::proofs::Pages::of_page, crate::proofs::Pages::unread_page))]
 pub fn put_page<O: Write>(
+    alloc: Global,
+    bytes: &[u8],
     from: u64,
     to: Option<u64>,
     texts: &SourceSizes,
-    alloc: Global,
-    bytes: &[u8],
     out: &mut O,
 ) -> Result<bool, Fault>
     ensures paged { IfOk result (λ taken. taken ≡ true
@@ -93,8 +93,8 @@ pub fn put_page<O: Write>(
     ensures left { IfErr result (λ fault.
         LeavesPieces (command.Page from to texts.now) bytes.now fault (O.contents out.old) (O.contents out.new)) }
 {
-    let (record, behind) = split(texts.as_slice(), bytes);
+    let (record, behind) = split(bytes, texts.as_slice());
     let (image, steps) = read(alloc, record)?;
-    let sources = sources(alloc, texts.as_slice(), behind)?;
+    let sources = sources(alloc, behind, texts.as_slice())?;
     page(alloc, &image, &steps, from, to, &sources, out).map_err(|fault| refused(fault))
 }

@@ -35,9 +35,9 @@ pub(crate) fn read(alloc: Global, bytes: &[u8]) -> Result<(Image, Vec<Step>), Fa
 /// nothing: one case a command. What `list` and `page` tell isn't made here: it is written as it is made.
 fn told_of(
     alloc: Global,
-    command: &RecordCommand,
     image: &Image,
     steps: &[Step],
+    command: &RecordCommand,
 ) -> Result<Answer, Fault>
     requires whole { is_in_pieces command.now ≡ false }
     requires looks { (words : List DebugWord) → command.now ≢ asked.Debug words }
@@ -49,10 +49,10 @@ fn told_of(
         RecordCommand::Check => checked(alloc, image, steps),
         RecordCommand::Report => reported(alloc, image, steps),
         RecordCommand::Stats { from, to, rank } => {
-            counted_steps(alloc, *from, *to, *rank, image, steps)
+            counted_steps(alloc, image, steps, *from, *to, *rank)
         }
-        RecordCommand::Draw { from, to } => pictured(alloc, *from, *to, image, steps),
-        RecordCommand::Why { at, frames } => explained(alloc, *at, *frames, image, steps),
+        RecordCommand::Draw { from, to } => pictured(alloc, image, steps, *from, *to),
+        RecordCommand::Why { at, frames } => explained(alloc, image, steps, *at, *frames),
         RecordCommand::List { .. } | RecordCommand::Page { .. } | RecordCommand::Debug { .. } => {
             unreachable!()
         }
@@ -62,9 +62,9 @@ fn told_of(
 /// What a command tells of the image and the steps of a record. A debugger keeps both; what only looks at them borrows them.
 fn told(
     alloc: Global,
-    command: &RecordCommand,
     image: Image,
     steps: Vec<Step>,
+    command: &RecordCommand,
 ) -> Result<Answer, Fault>
     requires { is_in_pieces command.now ≡ false }
     ensures tells { IfOk result (λ answer.
@@ -72,8 +72,8 @@ fn told(
     ensures fault { IfErr result (IsStepsFault command.now image steps.items) }
 {
     match command {
-        RecordCommand::Debug { words } => debugged(alloc, words, image, steps),
-        _ => told_of(alloc, command, &image, &steps),
+        RecordCommand::Debug { words } => debugged(alloc, image, steps, words),
+        _ => told_of(alloc, &image, &steps, command),
     }
 }
 
@@ -81,8 +81,8 @@ fn told(
 #[tactic(auto, using(crate::proofs::Readings::told_whole, crate::proofs::Readings::steps_whole, crate::proofs::Readings::says_whole, crate::proofs::Readings::unread_whole))]
 pub fn answer_of_record(
     alloc: Global,
-    command: &RecordCommand,
     bytes: &[u8],
+    command: &RecordCommand,
 ) -> Result<Answer, Fault>
     requires { is_in_pieces command.now ≡ false }
     ensures says { IfOk result (λ answer.
@@ -91,6 +91,6 @@ pub fn answer_of_record(
     ensures fault { IfErr result (IsReadFault command.now (reading_record (record_part command.now bytes.now))) }
 {
     let (image, steps) = read(alloc, bytes)?;
-    let answer = told(alloc, command, image, steps)?;
+    let answer = told(alloc, image, steps, command)?;
     Ok(answer)
 }

@@ -15,7 +15,7 @@ use rvmc_answers::Answer;
 use rvmc_answers::plans::{listed, plans};
 use rvmc_line::{CommandLine, ImageCommand, RecordCommand, Written};
 use rvmc_report::faults::Fault;
-use rvmc_tool::answers::{answer_to, answer_with_threads};
+use rvmc_tool::answers::{answer, answer_to};
 use rvmc_words::Numbers;
 use std::alloc::{AllocError, Global};
 use std::io::sink;
@@ -73,7 +73,7 @@ pub fn dis_has_no_threads<R: Threads + Wait + Sync>(
         source: false,
         command: ImageCommand::Dis,
     };
-    answer_with_threads(rt, alloc, &line, bytes, &mut sink())
+    answer(rt, alloc, &line, bytes, &mut sink())
 }
 
 /// An image isn't taken for a source: no bytes are no fault of a source.

@@ -3,7 +3,7 @@ use Rattle.rvmc_answers.specs.Ends.{end_status}
 use Rattle.rvmc_answers.specs.Outputs.{output_bytes}
 use Rattle.rvmc_tool.specs.Answers.{Makes}
 use Rattle.rvmc_tool.specs.Making.{RefusesImage}
-use Rattle.rvmc_tool.proofs.answers.made_of.Goals as goal
+use Rattle.rvmc_tool.proofs.answers.made.Goals as goal
 
 pub returns-in-Explore-clause-fault : goal.returns-in-Explore-clause-fault
 returns-in-Explore-clause-fault g c =

@@ -8,7 +8,7 @@ use Rattle.cl_threads.specs.Cuts.{IsEndedThreadRun}
 use Rattle.rvmc_runs.specs.Making.{IsLeft}
 use Rattle.rvmc_runs.proofs.Reading.{ok≢err}
 use Rattle.rvmc_runs.proofs.Stable.{thread_fault}
-use Rattle.rvmc_runs.proofs.stuck.run_until_stuck.Goals as goal
+use Rattle.rvmc_runs.proofs.stuck.run_until_stuck_by.Goals as goal
 
 -- what such a run leaves is a record of all ranks
 is_left : (image : ImageParts) (plans : List Plan) (left : Record) → IsImage image → IsEndedThreadRun image plans left

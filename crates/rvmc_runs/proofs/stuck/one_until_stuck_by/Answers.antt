@@ -1,6 +1,6 @@
 use Rattle.std.proofs.Common.{◌∙◌, inl, inr, rules, sym}
 use Rattle.rvmc_runs.proofs.Reading.{ok≢err}
-use Rattle.rvmc_runs.proofs.stuck.one_until_stuck.Goals as goal
+use Rattle.rvmc_runs.proofs.stuck.one_until_stuck_by.Goals as goal
 
 pub told_with_word-requires : goal.told_with_word-requires
 told_with_word-requires c =
