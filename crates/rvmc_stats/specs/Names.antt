@@ -2,9 +2,9 @@
 use Rattle.std.specs.Prelude.{ℕ, ◌==◌, if◌then◌else◌, List, [], ◌∷◌, ◌++◌, codes}
 
 -- the row of a number; where there is none, another name
-abbrev pub name_in : List ℕ → ℕ → List (ℕ × List ℕ) → List ℕ
-name_in other number [] = other
-name_in other number (row ∷ rows) = if (number == row.0) then row.1 else name_in other number rows
+abbrev pub name_for : List ℕ → ℕ → List (ℕ × List ℕ) → List ℕ
+name_for other number [] = other
+name_for other number (row ∷ rows) = if (number == row.0) then row.1 else name_for other number rows
 
 -- how a call ended, by the number in a0, as docs/CALLS.md lists it
 abbrev pub code_rows : List (ℕ × List ℕ)
@@ -29,11 +29,11 @@ code_rows =
     []
 
 abbrev pub code_name : ℕ → List ℕ
-code_name number = name_in (codes "no code") number code_rows
+code_name number = name_for (codes "no code") number code_rows
 
 -- how a call ended, by its column: with a code, or so
 abbrev pub other_outcome_rows : List (ℕ × List ℕ)
 other_outcome_rows = (18, codes "waits") ∷ (19, codes "ended") ∷ (20, codes "trapped") ∷ []
 
 abbrev pub outcome_name : ℕ → List ℕ
-outcome_name place = name_in (code_name place) place other_outcome_rows
+outcome_name place = name_for (code_name place) place other_outcome_rows
