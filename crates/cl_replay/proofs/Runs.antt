@@ -1,5 +1,5 @@
 -- Runs and the steps behind them.
-use Rattle.std.specs.Prelude.{ℕ, zero, suc, ◌+◌, ◌<◌, ◌≡◌, List, [], ◌∷◌, ◌++◌, take, slice_get, Some}
+use Rattle.std.specs.Prelude.{ℕ, zero, suc, ◌+◌, ◌<◌, ◌≤◌, ◌≡◌, List, [], ◌∷◌, ◌++◌, length, take, slice_get, Some}
 use Rattle.std.proofs.Common.{refl, sym, ap, ◌∙◌, subst, add-one, arith}
 use Rattle.std.proofs.lemmas.Option.{same_Some}
 use Rattle.rv_image_types.specs.declared.images.ImageParts.{ImageParts}
@@ -8,7 +8,8 @@ use Rattle.cl_machine.specs.declared.steps.Step.{Step}
 use Rattle.cl_machine.proofs.Tables.{one_end, run_more}
 use Rattle.cl_replay.specs.declared.states.ClusterState.{ClusterState}
 use Rattle.cl_replay.specs.Replaying.{IsReached}
-use Rattle.cl_replay.specs.InnerReplaying.{BreaksAt}
+use Rattle.cl_replay.specs.declared.replaying.ReplayFault.{ReplayFault}
+use Rattle.cl_replay.specs.InnerReplaying.{BreaksAt, ReplayFaultHolds, StepBreaks}
 use Rattle.cl_replay.specs.Laws.{RunLaw}
 use Rattle.cl_replay.specs.Steps.{Leads, LeadsNowhere}
 
@@ -59,3 +60,23 @@ module _ (image : ImageParts) (steps : List Step) (k : ℕ) (state : ClusterStat
     there = there;
     nowhere = λ next. nowhere image reached.cluster next reached.stands;
   }
+
+  -- why this step isn't done is why those before a later place aren't
+  pub breaks_before : (to : ℕ) → k < to → to ≤ length steps → (why : ReplayFault) → StepBreaks state k e why
+      → ReplayFaultHolds image steps to why
+  breaks_before to below within (ReplayFault.Step n) h = (
+    subst (λ m. m < to) (sym h.0) below,
+    within,
+    subst (λ m. BreaksAt image steps m) (sym h.0) (breaks h.1),
+  )
+  breaks_before to below within ReplayFault.Memory h = within
+  breaks_before to below within (ReplayFault.PastEnd len) h = absurd h
+
+-- why the steps before one place aren't done is why those before a later one aren't
+pub holds_further : (image : ImageParts) (steps : List Step) (n to : ℕ) → n ≤ to → to ≤ length steps
+    → (why : ReplayFault) → ReplayFaultHolds image steps n why → ReplayFaultHolds image steps to why
+holds_further image steps n to order within (ReplayFault.Step k) h =
+    (let below = h.0 in omega (arith, below, order), within, h.2)
+holds_further image steps n to order within ReplayFault.Memory h = within
+holds_further image steps n to order within (ReplayFault.PastEnd len) h =
+    absurd (let past = h.0 in omega (arith, past, order, within))

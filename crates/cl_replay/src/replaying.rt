@@ -3,12 +3,14 @@
 ghost use Rattle.std.specs.Prelude.{◌≡◌, ◌↔◌, ◌<◌, ◌≤◌, length, Err, IfErr, IfOk, OnOk};
 ghost use Rattle.cl_replay.specs.Replaying.{IsReached};
 ghost use Rattle.cl_replay.specs.InnerReplaying.{ReplayFaultHolds};
+ghost use Rattle.cl_replay.specs.declared.replaying.ReplayFault.TheVariants as faults;
 
 use crate::faults::WalkFault;
 use crate::states::ClusterState;
 use cl_machine::Step;
 use rv_image_types::Image;
-use std::alloc::Global;
+use std::alloc::{AllocError, AllocFailed, Global};
+use std::io;
 
 /// Why steps weren't replayed.
 #[derive(Clone, Copy, Drop)]
@@ -19,6 +21,31 @@ pub enum ReplayFault {
     Step(u64),
     /// 3: memory was refused, for the loaded cluster or for what a step makes.
     Memory,
+}
+
+impl From<AllocError> for ReplayFault {
+    ghost from_gives = { λ _ fault. fault ≡ faults.Memory };
+
+    fn from(_e: AllocError) -> ReplayFault {
+        ReplayFault::Memory
+    }
+}
+
+impl<T: Drop> From<AllocFailed<T>> for ReplayFault {
+    ghost from_gives = { λ _ fault. fault ≡ faults.Memory };
+
+    fn from(_e: AllocFailed<T>) -> ReplayFault {
+        ReplayFault::Memory
+    }
+}
+
+/// What is told of the steps is a text in memory, of which no write fails but for want of it.
+impl From<io::Error> for ReplayFault {
+    ghost from_gives = { λ _ fault. fault ≡ faults.Memory };
+
+    fn from(_e: io::Error) -> ReplayFault {
+        ReplayFault::Memory
+    }
 }
 
 /// The cluster of the image after the first n of these steps.

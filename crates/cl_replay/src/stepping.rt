@@ -2,11 +2,13 @@
 
 ghost use Rattle.std.specs.Prelude.{◌≡◌, IfErr, IsFalse, IsTrue, OnOk, Err};
 ghost use Rattle.cl_trace.specs.declared.events.Kind.TheVariants as kinds;
+ghost use Rattle.cl_replay.specs.InnerReplaying.{StepBreaks};
 ghost use Rattle.cl_replay.specs.InnerStates.{AreSame};
 ghost use Rattle.cl_replay.specs.Steps.{Leads, StepFaultHolds};
 
 use crate::calls::call;
 use crate::faults::StepFault;
+use crate::replaying::ReplayFault;
 use crate::states::ClusterState;
 use crate::turns::{freed, miss, plain, plain_at_once, quiet, ready, take};
 use cl_journal::CLOCK_MAX;
@@ -49,6 +51,19 @@ impl ClusterState {
             return Ok(());
         }
         self.step_any(step)
+    }
+
+    /// Does the step that stands at a place of a list, and tells that place where the machine hasn't the step. After a
+    /// refusal the state may be anything.
+    pub fn step_at(&mut self, place: u64, step: &Step) -> Result<(), ReplayFault>
+        ensures leads { OnOk result (Leads self.old step.now self.new) }
+        ensures fault { IfErr result (StepBreaks self.old place step.now) }
+    {
+        match self.step(step) {
+            Ok(()) => Ok(()),
+            Err(StepFault::NotAStep) => Err(ReplayFault::Step(place)),
+            Err(StepFault::Memory) => Err(ReplayFault::Memory),
+        }
     }
 
     /// Does a plain step that the machine has from here, unless the page that it stores to isn't there. Else nothing is

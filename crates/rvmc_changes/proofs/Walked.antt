@@ -17,11 +17,13 @@ use Rattle.cl_replay.proofs.Asks.{plain_steps}
 use Rattle.cl_machine.proofs.Tables.{one_end, run_more}
 use Rattle.cl_replay.proofs.Runs.{breaks, take_next}
 use Rattle.cl_replay.proofs.StatesThere.{state_there}
-use Rattle.cl_replay.specs.InnerReplaying.{BreaksAt}
+use Rattle.cl_replay.specs.InnerReplaying.{BreaksAt, StepBreaks}
 use Rattle.cl_replay.specs.Replaying.{IsReached}
 use Rattle.cl_replay.specs.Replays.{IsRunUpTo}
 use Rattle.cl_replay.specs.States.{ClusterStandsFor}
 use Rattle.cl_replay.specs.Steps.{Leads}
+use Rattle.cl_replay.specs.declared.replaying.ReplayFault.{ReplayFault}
+use Rattle.cl_replay.specs.declared.replaying.ReplayFault.TheVariants as fault
 use Rattle.cl_replay.specs.declared.states.ClusterState.{ClusterState}
 use Rattle.cl_state.proofs.Moves.{told_at}
 use Rattle.cl_state.specs.Asked.{asked, doing, part_of}
@@ -33,7 +35,7 @@ use Rattle.cl_state.specs.declared.asking.Answer.{Answer}
 use Rattle.cl_state.specs.declared.asking.Ask.{Ask}
 use Rattle.cl_state.specs.declared.state.RankState.{RankState}
 use Rattle.cl_trace.specs.declared.events.Kind.{Kind}
-use Rattle.rvmc_changes.specs.WalkFaults.{StepBreaks, StepsBreak}
+use Rattle.rvmc_changes.specs.WalkFaults.{StepsBreak}
 use Rattle.rvmc_changes.specs.Doing.{all_done, all_undone}
 use Rattle.rvmc_changes.proofs.Compared.{edits_cut}
 use Rattle.rvmc_changes.proofs.Places.{Tells, changes_more, places, shown, tells, told_there}
@@ -50,8 +52,6 @@ use Rattle.rvmc_changes.specs.declared.before.Before.{Before}
 use Rattle.rvmc_changes.specs.declared.before.Window.{Window}
 use Rattle.rvmc_changes.specs.declared.edits.Edit.{Edit}
 use Rattle.rvmc_changes.specs.declared.steps.Change.{Change}
-use Rattle.rvmc_changes.specs.declared.walks.WalkFault.{WalkFault}
-use Rattle.rvmc_changes.specs.declared.walks.WalkFault.TheVariants as fault
 
 -- ---- the bytes that a step may change
 
@@ -247,13 +247,14 @@ module _ (steps : List Step) (from n : ℕ) (old state : ClusterState) (changes 
       → Adds state e new changes after → Makes steps from old (n + 1) new after
   made_more forwards new leads after adds image reached = one_more forwards new leads after adds image reached
 
-  pub step_breaks : (to : ℕ) → n < to → (f : WalkFault) → StepBreaks state n e f → StepsBreak steps from old to f
-  step_breaks to below (fault.NotARun k) h = (
+  pub step_breaks : (to : ℕ) → n < to → (f : ReplayFault) → StepBreaks state n e f → StepsBreak steps from old to f
+  step_breaks to below (fault.Step k) h = (
     subst (λ m. m < to) (sym h.0) below,
     λ image reached. subst (λ m. BreaksAt image steps m) (sym h.0)
         (breaks image steps n state (made image reached).reached e there h.1),
   )
   step_breaks to below fault.Memory h = tt
+  step_breaks to below (fault.PastEnd len) h = absurd h
 
 -- ---- the walk
 

@@ -13,9 +13,9 @@ mod steps;
 mod walking;
 mod walks;
 
-pub use cl_replay::ClusterState;
+pub use cl_replay::{ClusterState, ReplayFault};
 pub use edits::Edit;
 pub use starts::{HartStart, RankStart};
 pub use steps::{Change, Stand};
 pub use walking::{begin, go_on};
-pub use walks::{Walk, WalkFault};
+pub use walks::Walk;

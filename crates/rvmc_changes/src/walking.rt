@@ -1,56 +1,25 @@
 //! The steps of a record, done one after another.
 
 ghost use Rattle.std.specs.Prelude.{◌≡◌, ◌≤◌, ◌<◌, [], IfErr, IfOk, IfSome, OnOk, Some, length, map, slice_get};
-ghost use Rattle.cl_replay.specs.Replaying.{IsReached};
+ghost use Rattle.cl_replay.specs.InnerReplaying.{ReplayFaultHolds, StepBreaks};
 ghost use Rattle.cl_replay.specs.Steps.{Leads};
 ghost use Rattle.cl_state.specs.Room.{rank_of};
 ghost use Rattle.cl_state.specs.declared.state.RankState.{RankState};
-ghost use Rattle.rvmc_changes.specs.WalkFaults.{PlaceFaultHolds, StepBreaks, StepsBreak};
+ghost use Rattle.cl_replay.specs.declared.replaying.ReplayFault.TheVariants as faults;
+ghost use Rattle.rvmc_changes.specs.WalkFaults.{StepsBreak};
 ghost use Rattle.rvmc_changes.specs.Given.{differences};
 ghost use Rattle.rvmc_changes.specs.Walking.{Adds, Fits, GoesOn, HasCome, IsAdded, IsBefore, Makes};
 ghost use Rattle.rvmc_changes.specs.Walks.{seen_at_start};
-ghost use Rattle.rvmc_changes.specs.declared.walks.WalkFault.TheVariants as faults;
 
 use crate::before::{Before, look_at};
 use crate::making::change_of;
 use crate::starts::start_of;
 use crate::steps::Change;
-use crate::walks::{Walk, WalkFault};
+use crate::walks::Walk;
 use cl_machine::Step;
-use cl_replay::{ClusterState, ReplayFault, StepFault, replay};
+use cl_replay::{ClusterState, ReplayFault, replay};
 use rv_image_types::Image;
 use std::alloc::Global;
-
-/// The cluster at a place.
-fn state_at(
-    alloc: Global,
-    image: &Image,
-    steps: &[Step],
-    place: u64,
-) -> Result<ClusterState, WalkFault>
-    requires { place ≤ length steps.now }
-    ensures reached { IfOk result (IsReached image.now steps.now place) }
-    ensures fault { IfErr result (PlaceFaultHolds image.now steps.now place) }
-{
-    match replay(alloc, image, steps, place) {
-        Ok(state) => Ok(state),
-        Err(ReplayFault::Step(n)) => Err(WalkFault::NotARun(n)),
-        Err(ReplayFault::Memory) => Err(WalkFault::Memory),
-        Err(ReplayFault::PastEnd(_)) => unreachable!(),
-    }
-}
-
-/// Does a step that stands at this place.
-fn advance(state: &mut ClusterState, place: u64, step: &Step) -> Result<(), WalkFault>
-    ensures leads { OnOk result (Leads state.old step.now state.new) }
-    ensures fault { IfErr result (StepBreaks state.old place step.now) }
-{
-    match state.step(step) {
-        Ok(()) => Ok(()),
-        Err(StepFault::NotAStep) => Err(WalkFault::NotARun(place)),
-        Err(StepFault::Memory) => Err(WalkFault::Memory),
-    }
-}
 
 /// Adds what a step that was done changed, of which this was known before it.
 fn put_behind(
@@ -59,7 +28,7 @@ fn put_behind(
     state: &ClusterState,
     step: &Step,
     before: &Option<Before>,
-) -> Result<(), WalkFault>
+) -> Result<(), ReplayFault>
     requires fits { IfSome before.now Fits }
     ensures adds { OnOk result ((s t : RankState) → IsBefore step.now (rank_of s) before.now
         → slice_get state.now.ranks.items step.now.rank ≡ Some t → step.now.hart < length s.harts.items
@@ -84,13 +53,13 @@ fn put_change(
     changes: &mut Vec<Change>,
     place: u64,
     step: &Step,
-) -> Result<(), WalkFault>
+) -> Result<(), ReplayFault>
     ensures leads { OnOk result (Leads state.old step.now state.new) }
     ensures adds { OnOk result (Adds state.old step.now state.new changes.old.items changes.new.items) }
     ensures fault { IfErr result (StepBreaks state.old place step.now) }
 {
     let before = look_at(alloc, state, step)?;
-    advance(state, place, step)?;
+    state.step_at(place, step)?;
     put_behind(alloc, changes, state, step, &before)
 }
 
@@ -102,7 +71,7 @@ fn put_changes(
     steps: &[Step],
     from: usize,
     to: usize,
-) -> Result<(), WalkFault>
+) -> Result<(), ReplayFault>
     requires none { changes.old.items ≡ [] }
     requires order { from ≤ to }
     requires within { to ≤ length steps.now }
@@ -117,22 +86,22 @@ fn put_changes(
 
 /// A walk that begins at a place of a record: what is seen there, and the cluster, from which `go_on` goes on.
 ///
-/// Refusals, in this order: NotARun where a step before the place is none of the machine; Memory.
+/// Refusals, in this order: Step where a step before the place is none of the machine; Memory.
 #[tactic(auto, using(crate::proofs::Walked::has_begun))]
-pub fn begin(alloc: Global, image: &Image, steps: &[Step], place: u64) -> Result<Walk, WalkFault>
+pub fn begin(alloc: Global, image: &Image, steps: &[Step], place: u64) -> Result<Walk, ReplayFault>
     requires { place ≤ length steps.now }
     ensures begun { IfOk result (λ walk.
         HasCome image.now steps.now place place (seen_at_start walk.start.items) [] walk.state) }
-    ensures fault { IfErr result (PlaceFaultHolds image.now steps.now place) }
+    ensures fault { IfErr result (ReplayFaultHolds image.now steps.now place) }
 {
-    let state = state_at(alloc, image, steps, place)?;
+    let state = replay(alloc, image, steps, place)?;
     let start = start_of(alloc, &state)?;
     Ok(Walk { start, state })
 }
 
 /// Does the steps from one place to another, and gives the change of each. So a long walk is made piece by piece.
 ///
-/// Refusals, in this order: NotARun where one of these steps is none of the machine; Memory. The state may then be
+/// Refusals, in this order: Step where one of these steps is none of the machine; Memory. The state may then be
 /// anything.
 #[tactic(auto, using(crate::proofs::Walked::goes_on))]
 pub fn go_on(
@@ -141,7 +110,7 @@ pub fn go_on(
     steps: &[Step],
     from: u64,
     to: u64,
-) -> Result<Vec<Change>, WalkFault>
+) -> Result<Vec<Change>, ReplayFault>
     requires order { from ≤ to }
     requires within { to ≤ length steps.now }
     ensures on { IfOk result (λ changes. GoesOn steps.now from state.old to state.new (differences changes.items)) }

@@ -1,6 +1,6 @@
 -- Steps that are told one after another.
 use Rattle.std.specs.Prelude.{ℕ, ◌+◌, ◌-◌, ◌<◌, ◌≤◌, ◌≡◌, List, [], ◌∷◌, ◌++◌, length, slice_get, take}
-use Rattle.std.specs.Prelude.{Option, Some, None, false, max}
+use Rattle.std.specs.Prelude.{Option, Some, None, false}
 use Rattle.std.proofs.Common.{refl, sym, ap, ◌∙◌, subst, add-one, append_assoc, append-nil, arith}
 use Rattle.std.proofs.lemmas.List.{length-append}
 use Rattle.std.proofs.lemmas.Option.{same_Some}
@@ -8,10 +8,11 @@ use Rattle.rv_image_types.specs.declared.images.ImageParts.{ImageParts}
 use Rattle.cl_machine.proofs.Tables.{run_more}
 use Rattle.cl_machine.specs.Cluster.{IsRun, loaded_cluster}
 use Rattle.cl_machine.specs.declared.steps.Step.{Step}
-use Rattle.cl_replay.proofs.Runs.{breaks, take_next}
-use Rattle.cl_replay.specs.InnerReplaying.{BreaksAt}
+use Rattle.cl_replay.proofs.Runs.{holds_further, take_next}
+use Rattle.cl_replay.specs.InnerReplaying.{ReplayFaultHolds}
 use Rattle.cl_replay.specs.Replaying.{IsReached}
 use Rattle.cl_replay.specs.Steps.{Leads}
+use Rattle.cl_replay.specs.declared.replaying.ReplayFault.{ReplayFault}
 use Rattle.cl_replay.specs.declared.states.ClusterState.{ClusterState}
 use Rattle.cl_state.specs.Asked.{asked}
 use Rattle.cl_state.specs.Rank.{Rank}
@@ -20,14 +21,13 @@ use Rattle.rvmc_sights.specs.Lines.{Sight, box_in, sight_of}
 use Rattle.rvmc_sights.specs.Sights.{IsSightAt}
 use Rattle.rvmc_sights.proofs.Sights.{IsSeen, each_more, seen_at}
 use Rattle.rvmc_list.specs.Folding.{is_wanted, scene_line, lines_of, scenes_text}
-use Rattle.rvmc_list.specs.List.{AreScenes, AreSights, IsSceneAt, ListFaultHolds, is_past, last_place, names_no_rank}
+use Rattle.rvmc_list.specs.List.{AreScenes, AreSights, IsSceneAt, ListFaultHolds, furthest, names_no_rank}
 use Rattle.rvmc_list.specs.Meeting.{AreOfBoxes, IsCountedTo, IsMet, IsMetBy, behind_box}
 use Rattle.rvmc_list.specs.Phases.{Scene}
 use Rattle.rvmc_list.specs.Pieces.{behind, closing, opened_by, piece_of}
-use Rattle.rvmc_list.specs.Putting.{ArePut, AreTold, IsPut, PutFaultHolds, Puts, StepsFaultHolds}
+use Rattle.rvmc_list.specs.Putting.{ArePut, AreTold, IsPut, Puts}
 use Rattle.rvmc_list.specs.declared.folding.Wanted.{Wanted}
 use Rattle.rvmc_list.specs.declared.phases.Phases.{Phases}
-use Rattle.rvmc_list.specs.declared.walk.ListFault.{ListFault}
 use Rattle.rvmc_list.specs.declared.walk.ListFault.TheVariants as fault
 use Rattle.rvmc_list.proofs.Folds.{behind_none, scene_more}
 use Rattle.rvmc_list.proofs.BoxCounts.{boxes_more, phase_is_known}
@@ -149,25 +149,9 @@ told_all image steps wanted n to state phases begun old text after put same clos
       ∙ ap (λ scenes. old ++ scenes_text image.symbols wanted scenes) (append-nil put.scenes);
 }
 
--- why a step wasn't put is why those before a place behind it weren't all done
-pub step_fault : (image : ImageParts) (steps : List Step) (n to : ℕ) (state : ClusterState)
-    → IsReached image steps n state → (e : Step) → slice_get steps n ≡ Some e → n < to → (fault : ListFault)
-    → PutFaultHolds state n e fault → StepsFaultHolds image steps to fault
-step_fault image steps n to state reached e there below (fault.NotARun k) h = (
-  subst (λ m. m < to) (sym h.0) below,
-  subst (λ m. BreaksAt image steps m) (sym h.0) (breaks image steps n state reached e there h.1),
-)
-step_fault image steps n to state reached e there below fault.Memory h = tt
-step_fault image steps n to state reached e there below fault.NoRank h = absurd h
-step_fault image steps n to state reached e there below (fault.PastEnd len) h = absurd h
-
--- and why there is no list
-pub list_fault : (image : ImageParts) (steps : List Step) (wanted : Wanted) (to : ℕ)
-    → to ≤ max wanted.from (last_place wanted steps) → names_no_rank wanted.rank image.ranks ≡ false
-    → is_past wanted steps ≡ false → (fault : ListFault) → StepsFaultHolds image steps to fault
-    → ListFaultHolds image steps wanted fault
-list_fault image steps wanted to most rank past (fault.NotARun n) h =
-    (rank, past, (let below = h.0 in omega (arith, below, most)), h.1)
-list_fault image steps wanted to most rank past fault.Memory h = (rank, past)
-list_fault image steps wanted to most rank past fault.NoRank h = absurd h
-list_fault image steps wanted to most rank past (fault.PastEnd len) h = absurd h
+-- why the steps before a place weren't all done is why there is no list
+pub list_fault : (image : ImageParts) (steps : List Step) (wanted : Wanted) (to : ℕ) → to ≤ furthest wanted steps
+    → names_no_rank wanted.rank image.ranks ≡ false → furthest wanted steps ≤ length steps → (why : ReplayFault)
+    → ReplayFaultHolds image steps to why → ListFaultHolds image steps wanted (fault.Replay why)
+list_fault image steps wanted to most rank within why h =
+    (rank, holds_further image steps to (furthest wanted steps) most within why h)

@@ -12,9 +12,12 @@ use Rattle.rvmc_sights.proofs.Below.{run_sized}
 use Rattle.cl_machine.proofs.Tables.{run_less, run_more}
 use Rattle.cl_machine.specs.Cluster.{Cluster, IsRun, IsStep, loaded_cluster}
 use Rattle.cl_machine.specs.declared.steps.Step.{Step}
-use Rattle.cl_replay.proofs.Runs.{run_law, take_next}
+use Rattle.cl_replay.proofs.Runs.{breaks_before, run_law, take_next}
+use Rattle.cl_replay.specs.InnerReplaying.{ReplayFaultHolds, StepBreaks}
 use Rattle.cl_replay.specs.Replays.{IsRunUpTo}
 use Rattle.cl_replay.specs.Steps.{Leads}
+use Rattle.cl_replay.specs.declared.replaying.ReplayFault.{ReplayFault}
+use Rattle.cl_replay.specs.declared.replaying.ReplayFault.TheVariants as replay
 use Rattle.cl_replay.specs.declared.states.ClusterState.{ClusterState}
 use Rattle.cl_state.specs.Asked.{asked}
 use Rattle.rvmc_sights.specs.Lines.{sight_of}
@@ -24,14 +27,14 @@ use Rattle.rvmc_list.specs.List.{AreScenes, IsSceneAt, last_place}
 use Rattle.rvmc_list.specs.Meeting.{IsCountedTo, IsMet}
 use Rattle.rvmc_list.specs.Phases.{Scene, phase_in}
 use Rattle.rvmc_list.specs.Pieces.{behind, closing}
-use Rattle.rvmc_list.specs.Putting.{ArePut, PutFaultHolds, Puts, StepsFaultHolds}
+use Rattle.rvmc_list.specs.Putting.{ArePut, Puts}
 use Rattle.rvmc_sights.specs.Pieces.{IsMoved}
 use Rattle.rvmc_list.specs.Written.{IsBegun, IsChecked, IsWritten, Leaves}
 use Rattle.rvmc_list.specs.declared.folding.Wanted.{Wanted}
 use Rattle.rvmc_list.specs.declared.phases.Phases.{Phases}
 use Rattle.rvmc_list.specs.declared.walk.ListFault.{ListFault}
 use Rattle.rvmc_list.specs.declared.walk.ListFault.TheVariants as fault
-use Rattle.rvmc_list.proofs.Told.{put_more, put_none, scenes_more, step_fault, told_all}
+use Rattle.rvmc_list.proofs.Told.{put_more, put_none, scenes_more, told_all}
 
 -- ---- each step of a run has a scene
 
@@ -194,32 +197,32 @@ whatever (Ok x) P is = tt
 whatever (Err e) P is = is
 
 -- steps that are a run are refused for memory alone
-pub only_memory : (image : ImageParts) (steps : List Step) (n : ℕ) → IsRunUpTo image steps n → (why : ListFault)
-    → StepsFaultHolds image steps n why → why ≡ fault.Memory
-only_memory image steps n run (fault.NotARun k) h = absurd (run_law image steps n k run h.0 h.1)
-only_memory image steps n run fault.Memory h = refl
-only_memory image steps n run fault.NoRank h = absurd h
-only_memory image steps n run (fault.PastEnd len) h = absurd h
+pub only_memory : (image : ImageParts) (steps : List Step) (n : ℕ) → IsRunUpTo image steps n → n ≤ length steps
+    → (why : ReplayFault) → ReplayFaultHolds image steps n why → why ≡ replay.Memory
+only_memory image steps n run within (replay.Step k) h = absurd (run_law image steps n k run h.0 h.2)
+only_memory image steps n run within replay.Memory h = refl
+only_memory image steps n run within (replay.PastEnd len) h = absurd (let past = h.0 in omega (arith, past, within))
 
 pub step_wants_memory : (image : ImageParts) (steps : List Step) (wanted : Wanted) (to n : ℕ) (state : ClusterState)
-    (phases : Phases) → IsChecked image steps wanted to → IsCountedTo image steps n state phases → (e : Step)
-    → slice_get steps n ≡ Some e → n < to → (why : ListFault) → PutFaultHolds state n e why → why ≡ fault.Memory
-step_wants_memory image steps wanted to n state phases checked counted e there below why h =
+    (phases : Phases) → IsChecked image steps wanted to → max wanted.from to ≤ length steps
+    → IsCountedTo image steps n state phases → (e : Step) → slice_get steps n ≡ Some e → n < to → (why : ReplayFault)
+    → StepBreaks state n e why → why ≡ replay.Memory
+step_wants_memory image steps wanted to n state phases checked within counted e there below why h =
     let most : n < max wanted.from to = omega (arith, below) in
-    only_memory image steps (max wanted.from to) checked.run why
-    (step_fault image steps n (max wanted.from to) state counted.reached e there most why h)
+    only_memory image steps (max wanted.from to) checked.run within why
+    (breaks_before image steps n state counted.reached e there (max wanted.from to) most within why h)
 
 -- ---- what is left at the writer
 
 pub nothing_left : (image : ImageParts) (steps : List Step) (wanted : Wanted) (why : ListFault) (known : Option (List ℕ))
     → Leaves image steps wanted why known known
-nothing_left image steps wanted fault.Memory known = inl (Keeps-refl known)
 nothing_left image steps wanted fault.NoRank known = Keeps-refl known
-nothing_left image steps wanted (fault.PastEnd len) known = Keeps-refl known
-nothing_left image steps wanted (fault.NotARun n) known = Keeps-refl known
+nothing_left image steps wanted (fault.Replay replay.Memory) known = inl (Keeps-refl known)
+nothing_left image steps wanted (fault.Replay (replay.PastEnd len)) known = Keeps-refl known
+nothing_left image steps wanted (fault.Replay (replay.Step n)) known = Keeps-refl known
 
-pub begun_left : (image : ImageParts) (steps : List Step) (wanted : Wanted) (why : ListFault)
-    (before after : Option (List ℕ)) → why ≡ fault.Memory → IsBegun image steps wanted before after
-    → Leaves image steps wanted why before after
+pub begun_left : (image : ImageParts) (steps : List Step) (wanted : Wanted) (why : ReplayFault)
+    (before after : Option (List ℕ)) → why ≡ replay.Memory → IsBegun image steps wanted before after
+    → Leaves image steps wanted (fault.Replay why) before after
 begun_left image steps wanted why before after is begun =
-    subst (λ (f : ListFault). Leaves image steps wanted f before after) (sym is) (inr begun)
+    subst (λ (f : ReplayFault). Leaves image steps wanted (fault.Replay f) before after) (sym is) (inr begun)

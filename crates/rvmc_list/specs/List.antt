@@ -1,11 +1,11 @@
 -- A record in words.
-use Rattle.std.specs.Prelude.{ℕ, ◌≡◌, ◌<◌, ◌+◌, ◌-◌, ◌||◌, nat_le, nat_lt, Bool, true, false, max, List, length, slice_get}
+use Rattle.std.specs.Prelude.{ℕ, ◌≡◌, ◌+◌, ◌-◌, nat_le, Bool, true, false, max, List, length, slice_get}
 use Rattle.std.specs.Prelude.{Option, Some, None}
 use Rattle.std.specs.Option.{unwrap_or}
 use Rattle.rv_image_types.specs.declared.images.ImageParts.{ImageParts}
 use Rattle.cl_state.specs.Asked.{asked}
 use Rattle.cl_machine.specs.declared.steps.Step.{Step}
-use Rattle.cl_replay.specs.InnerReplaying.{BreaksAt}
+use Rattle.cl_replay.specs.InnerReplaying.{ReplayFaultHolds}
 use Rattle.rvmc_sights.specs.Lines.{Sight}
 use Rattle.rvmc_sights.specs.Sights.{IsSightAt}
 use Rattle.rvmc_list.specs.Folding.{scenes_text}
@@ -47,18 +47,12 @@ abbrev pub names_no_rank : Option ℕ → ℕ → Bool
 names_no_rank None ranks = false
 names_no_rank (Some rank) ranks = nat_le ranks rank
 
--- the list would begin or end behind the last step
-abbrev pub is_past : Wanted → List Step → Bool
-is_past wanted steps = nat_lt (length steps) wanted.from || nat_lt (length steps) (last_place wanted steps)
+-- the steps are replayed up to where the list begins and ends
+abbrev pub furthest : Wanted → List Step → ℕ
+furthest wanted steps = max wanted.from (last_place wanted steps)
 
--- why there is no text: no such rank; places behind the end; a step before the list's end that the machine doesn't have
--- where those before it lead; or memory
+-- why there is no text: no such rank, or why the steps weren't replayed so far
 abbrev pub ListFaultHolds : ImageParts → List Step → Wanted → ListFault → Type 0
 ListFaultHolds image steps wanted fault.NoRank = names_no_rank wanted.rank image.ranks ≡ true
-ListFaultHolds image steps wanted (fault.PastEnd len) =
-    (names_no_rank wanted.rank image.ranks ≡ false) × (is_past wanted steps ≡ true) × (len ≡ length steps)
-ListFaultHolds image steps wanted (fault.NotARun n) =
-    (names_no_rank wanted.rank image.ranks ≡ false) × (is_past wanted steps ≡ false)
-    × (n < max wanted.from (last_place wanted steps)) × BreaksAt image steps n
-ListFaultHolds image steps wanted fault.Memory =
-    (names_no_rank wanted.rank image.ranks ≡ false) × (is_past wanted steps ≡ false)
+ListFaultHolds image steps wanted (fault.Replay why) =
+    (names_no_rank wanted.rank image.ranks ≡ false) × ReplayFaultHolds image steps (furthest wanted steps) why

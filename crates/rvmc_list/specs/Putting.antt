@@ -1,12 +1,10 @@
 -- How the text of a record is put together, one step after another.
-use Rattle.std.specs.Prelude.{ℕ, ◌≡◌, ◌<◌, ◌++◌, ◌∷◌, [], Bool, List, Option, None, Some, false, length, slice_get}
+use Rattle.std.specs.Prelude.{ℕ, ◌≡◌, ◌<◌, ◌≤◌, ◌++◌, ◌∷◌, [], Bool, List, Option, None, Some, false, length, slice_get}
 use Rattle.rv_hart.specs.State.{State}
 use Rattle.rv_image_types.specs.declared.images.ImageParts.{ImageParts}
 use Rattle.rv_image_types.specs.declared.images.Symbol.{Symbol}
 use Rattle.cl_machine.specs.declared.steps.Step.{Step}
-use Rattle.cl_replay.specs.InnerReplaying.{BreaksAt}
 use Rattle.cl_replay.specs.Replaying.{IsReached}
-use Rattle.cl_replay.specs.Steps.{LeadsNowhere}
 use Rattle.cl_replay.specs.declared.states.ClusterState.{ClusterState}
 use Rattle.cl_state.specs.Room.{rank_of}
 use Rattle.cl_state.specs.declared.state.RankState.{RankState}
@@ -16,13 +14,11 @@ use Rattle.rvmc_sights.specs.declared.lines.Seen.{Seen}
 use Rattle.rvmc_list.specs.Folding.{Line, is_wanted, scene_line, lines_of, scenes_text}
 use Rattle.rvmc_list.specs.Phases.{Scene, scene_text}
 use Rattle.rvmc_list.specs.Meeting.{IsCountedTo}
-use Rattle.rvmc_list.specs.List.{AreScenes, is_past, last_place, names_no_rank}
+use Rattle.rvmc_list.specs.List.{AreScenes, furthest, last_place, names_no_rank}
 use Rattle.rvmc_list.specs.Pieces.{behind, closing, opened_by, piece_of}
 use Rattle.rvmc_list.specs.declared.folding.Wanted.{Wanted}
 use Rattle.rvmc_list.specs.declared.phases.Phases.{Phases}
 use Rattle.rvmc_list.specs.declared.walk.Done.{Done}
-use Rattle.rvmc_list.specs.declared.walk.ListFault.{ListFault}
-use Rattle.rvmc_list.specs.declared.walk.ListFault.TheVariants as fault
 
 -- a step was put: whatever its rank was before and after it, its sight was added, and this line is begun behind it
 pub record IsPut (wanted : Wanted) (begun : Option ℕ) (line : Line) (e : Step) (old new : List ℕ)
@@ -80,19 +76,7 @@ pub record IsStart (image : ImageParts) (steps : List Step) (wanted : Wanted) (p
   pub reached : IsReached image steps place state
   pub to_is : to ≡ last_place wanted steps
   pub rank : names_no_rank wanted.rank image.ranks ≡ false
-  pub within : is_past wanted steps ≡ false
-
--- why a step wasn't put
-abbrev pub PutFaultHolds : ClusterState → ℕ → Step → ListFault → Type 0
-PutFaultHolds old place e (fault.NotARun n) = (n ≡ place) × LeadsNowhere old e
-PutFaultHolds old place e fault.Memory = Unit {0}
-PutFaultHolds old place e _ = ⊥
-
--- why the steps before a place weren't all done
-abbrev pub StepsFaultHolds : ImageParts → List Step → ℕ → ListFault → Type 0
-StepsFaultHolds image steps to (fault.NotARun n) = (n < to) × BreaksAt image steps n
-StepsFaultHolds image steps to fault.Memory = Unit {0}
-StepsFaultHolds image steps to _ = ⊥
+  pub within : furthest wanted steps ≤ length steps
 
 -- the steps from one place to another were put, and the state is the cluster there
 pub record ArePut (image : ImageParts) (steps : List Step) (wanted : Wanted) (from n : ℕ) (state : ClusterState)

@@ -1,11 +1,12 @@
 -- What stands at a writer of a record in words.
-use Rattle.std.specs.Prelude.{ℕ, ◌≡◌, ◌⊎◌, ◌++◌, false, max, List, Option}
+use Rattle.std.specs.Prelude.{ℕ, ◌≡◌, ◌≤◌, ◌⊎◌, false, length, max, List, Option}
 use Rattle.std.specs.Io.{StartsWith}
 use Rattle.std.specs.Io.KnownBytes.{Appends, Keeps}
 use Rattle.cl_machine.specs.declared.steps.Step.{Step}
 use Rattle.cl_replay.specs.Replays.{IsRunUpTo}
+use Rattle.cl_replay.specs.declared.replaying.ReplayFault.TheVariants as replay
 use Rattle.rv_image_types.specs.declared.images.ImageParts.{ImageParts}
-use Rattle.rvmc_list.specs.List.{IsList, is_past, last_place, names_no_rank}
+use Rattle.rvmc_list.specs.List.{IsList, furthest, last_place, names_no_rank}
 use Rattle.rvmc_list.specs.declared.folding.Wanted.{Wanted}
 use Rattle.rvmc_list.specs.declared.walk.ListFault.{ListFault}
 use Rattle.rvmc_list.specs.declared.walk.ListFault.TheVariants as fault
@@ -26,7 +27,7 @@ pub record IsBegun (image : ImageParts) (steps : List Step) (wanted : Wanted) (o
 
 -- where it is refused: nothing; or, where memory is refused while it is written, a beginning
 abbrev pub Leaves : ImageParts → List Step → Wanted → ListFault → Option (List ℕ) → Option (List ℕ) → Type 0
-Leaves image steps wanted fault.Memory old new = Keeps old new ⊎ IsBegun image steps wanted old new
+Leaves image steps wanted (fault.Replay replay.Memory) old new = Keeps old new ⊎ IsBegun image steps wanted old new
 Leaves image steps wanted other old new = Keeps old new
 
 -- ---- the way there
@@ -36,5 +37,5 @@ Leaves image steps wanted other old new = Keeps old new
 pub record IsChecked (image : ImageParts) (steps : List Step) (wanted : Wanted) (to : ℕ) : Type 0 where
   pub to_is : to ≡ last_place wanted steps
   pub rank : names_no_rank wanted.rank image.ranks ≡ false
-  pub within : is_past wanted steps ≡ false
+  pub within : furthest wanted steps ≤ length steps
   pub run : IsRunUpTo image steps (max wanted.from to)

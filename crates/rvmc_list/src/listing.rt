@@ -1,24 +1,25 @@
 //! The text of a record.
 
 ghost use Rattle.std.specs.Prelude.{◌≡◌, ◌+◌, ◌-◌, ◌<◌, ◌≤◌, ◌^◌, IfErr, IfOk, OnOk, length, max, true};
+ghost use Rattle.cl_replay.specs.InnerReplaying.{ReplayFaultHolds, StepBreaks};
 ghost use Rattle.cl_replay.specs.Steps.{Leads};
+ghost use Rattle.cl_replay.specs.declared.replaying.ReplayFault.TheVariants.{Memory};
 ghost use Rattle.rvmc_list.specs.Folding.{is_wanted as is_wanted_of};
 ghost use Rattle.rvmc_list.specs.Keeping.{AreKept};
 ghost use Rattle.rvmc_list.specs.List.{ListFaultHolds};
 ghost use Rattle.rvmc_list.specs.Meeting.{IsCountedTo};
 ghost use Rattle.rvmc_list.specs.Pieces.{IsWithin};
-ghost use Rattle.rvmc_list.specs.Putting.{PutFaultHolds, Puts, StepsFaultHolds};
+ghost use Rattle.rvmc_list.specs.Putting.{Puts};
 ghost use Rattle.rvmc_list.specs.Written.{IsBegun, IsChecked, IsWritten, Leaves};
 ghost use Rattle.rvmc_sights.specs.Pieces.{IsMoved};
-ghost use Rattle.rvmc_list.specs.declared.walk.ListFault.TheVariants.{Memory};
 
 use crate::folding::{Told, Wanted, close, is_wanted, put_line};
 use crate::kept::Texts;
 use crate::phases::{Phases, meet};
 use crate::plain::{is_plain, put_plain_line};
-use crate::walk::{ListFault, advance, checked, do_step, state_at};
+use crate::walk::{ListFault, checked, do_step};
 use cl_machine::Step;
-use cl_replay::ClusterState;
+use cl_replay::{ClusterState, ReplayFault, replay};
 use rv_image_types::{Image, Symbol};
 use rvmc_sights::put_piece;
 use std::alloc::Global;
@@ -42,7 +43,7 @@ fn put_seen(
     wanted: &Wanted,
     begun: Option<u64>,
     due: &Due<'_>,
-) -> Result<Option<u64>, ListFault>
+) -> Result<Option<u64>, ReplayFault>
     requires fits { due.now.place < 2 ^ 64 - 1 }
     requires within { IsWithin due.now.place begun }
     requires told { is_wanted_of wanted.now due.now.step.now ≡ true }
@@ -50,7 +51,7 @@ fn put_seen(
     ensures puts { IfOk result (Puts symbols.now wanted.now state.old due.now.place due.now.phase due.now.step.now
         state.new text.old.items begun text.new.items) }
     ensures within { IfOk result (λ next. IsWithin (due.now.place + 1) next) }
-    ensures fault { IfErr result (PutFaultHolds state.old due.now.place due.now.step.now) }
+    ensures fault { IfErr result (StepBreaks state.old due.now.place due.now.step.now) }
 {
     let Due { place, step, phase } = *due;
     let Some(done) = do_step(state, place, step)? else {
@@ -75,7 +76,7 @@ fn put_step(
     wanted: &Wanted,
     begun: Option<u64>,
     due: &Due<'_>,
-) -> Result<Option<u64>, ListFault>
+) -> Result<Option<u64>, ReplayFault>
     requires within { IsWithin due.now.place begun }
     requires fits { due.now.place < 2 ^ 64 - 1 }
     requires kept { AreKept symbols.now texts.old }
@@ -84,10 +85,10 @@ fn put_step(
         state.new text.old.items begun text.new.items) }
     ensures within { IfOk result (λ next. IsWithin (due.now.place + 1) next) }
     ensures kept { OnOk result (AreKept symbols.now texts.new) }
-    ensures fault { IfErr result (PutFaultHolds state.old due.now.place due.now.step.now) }
+    ensures fault { IfErr result (StepBreaks state.old due.now.place due.now.step.now) }
 {
     if !is_wanted(wanted, due.step) {
-        advance(state, due.place, due.step)?;
+        state.step_at(due.place, due.step)?;
         return Ok(begun);
     }
     if is_plain(due.step) {
@@ -115,7 +116,7 @@ fn put_steps<W: Write>(
     wanted: &Wanted,
     to: u64,
     out: &mut W,
-) -> Result<bool, ListFault>
+) -> Result<bool, ReplayFault>
     requires counted { IsCountedTo image.now steps.now wanted.now.from state.old phases.old }
     requires checked { IsChecked image.now steps.now wanted.now to }
     requires within { max wanted.now.from to ≤ length steps.now }
@@ -152,16 +153,16 @@ fn meet_steps(
     image: &Image,
     steps: &[Step],
     to: u64,
-) -> Result<(), ListFault>
+) -> Result<(), ReplayFault>
     requires counted { IsCountedTo image.now steps.now 0 state.old phases.old }
     requires within { to ≤ length steps.now }
     ensures counted { OnOk result (IsCountedTo image.now steps.now to state.new phases.new) }
-    ensures fault { IfErr result (StepsFaultHolds image.now steps.now to) }
+    ensures fault { IfErr result (ReplayFaultHolds image.now steps.now to) }
 {
     for n in 0..to {
         let step = &steps[n as usize];
         meet(phases, state, step)?;
-        advance(state, n, step)?;
+        state.step_at(n, step)?;
     }
     Ok(())
 }
@@ -190,7 +191,8 @@ fn put_wanted<W: Write>(
         Leaves image.now steps.now wanted.now fault (W.contents out.old) (W.contents out.new)) }
 {
     meet_steps(state, phases, image, steps, wanted.from)?;
-    put_steps(state, phases, texts, image, steps, wanted, to, out)
+    let taken = put_steps(state, phases, texts, image, steps, wanted, to, out)?;
+    Ok(taken)
 }
 
 /// Writes a record in words: a line for each of its steps that is wanted, in their order. Step n, from 0, leads from place
@@ -200,7 +202,7 @@ fn put_wanted<W: Write>(
 /// once before, so that nothing is written where they are no run.
 ///
 /// Refusals, in this order: NoRank where the image hasn't the rank; PastEnd where a place is behind the last step;
-/// NotARun where a step before the list's end is none of the machine; Memory, and then a beginning of the text may stand at
+/// Step where a step before the list's end is none of the machine; Memory, and then a beginning of the text may stand at
 /// the writer.
 #[tactic(auto, using(crate::proofs::Told::list_fault))]
 pub fn list<W: Write>(
@@ -219,7 +221,7 @@ pub fn list<W: Write>(
     let to = checked(alloc, image, steps, wanted)?;
     let mut phases = Phases::new(alloc, image)?;
     let mut texts = Texts::new(alloc)?;
-    let mut state = state_at(alloc, image, steps, 0)?;
+    let mut state = replay(alloc, image, steps, 0)?;
     put_wanted(
         image,
         steps,

@@ -1,21 +1,22 @@
 //! The lines of steps that do an instruction: each begins before it, and ends behind it.
 
 ghost use Rattle.std.specs.Prelude.{◌≡◌, ◌∷◌, ◌++◌, [], IfErr, OnOk, true};
+ghost use Rattle.cl_replay.specs.InnerReplaying.{StepBreaks};
 ghost use Rattle.cl_replay.specs.Steps.{Leads};
 ghost use Rattle.rvmc_list.specs.Fronts.{PutsPlain};
 ghost use Rattle.rvmc_list.specs.Folding.{is_plain as is_plain_of};
 ghost use Rattle.rvmc_list.specs.Keeping.{AreKept};
 ghost use Rattle.rvmc_list.specs.Phases.{phase_text};
-ghost use Rattle.rvmc_list.specs.Putting.{PutFaultHolds, PutsPlainLine};
+ghost use Rattle.rvmc_list.specs.Putting.{PutsPlainLine};
 
 use crate::folding::close;
 use crate::fronts::put_front;
 use crate::kept::Texts;
 use crate::listing::Due;
 use crate::phases::put_phase;
-use crate::walk::{ListFault, advance, hart_after, has_overflowed_after};
+use crate::walk::{hart_after, has_overflowed_after};
 use cl_machine::{KindRef, Step};
-use cl_replay::ClusterState;
+use cl_replay::{ClusterState, ReplayFault};
 use cl_trace::Bare;
 use rv_image_types::Symbol;
 use rvmc_sights::put_rest;
@@ -36,22 +37,22 @@ fn put_plain(
     symbols: &[Symbol],
     place: u64,
     step: &Step,
-) -> Result<(), ListFault>
+) -> Result<(), ReplayFault>
     requires plain { is_plain_of step.now.kind ≡ true }
     requires kept { AreKept symbols.now texts.old }
     ensures leads { OnOk result (Leads state.old step.now state.new) }
     ensures puts { OnOk result (PutsPlain symbols.now state.old place step.now state.new text.old.items text.new.items) }
     ensures kept { OnOk result (AreKept symbols.now texts.new) }
-    ensures fault { IfErr result (PutFaultHolds state.old place step.now) }
+    ensures fault { IfErr result (StepBreaks state.old place step.now) }
 {
     let Some(own) = state.ranks.get(usize::from(step.rank())) else {
-        return advance(state, place, step);
+        return state.step_at(place, step);
     };
     if usize::from(step.hart()) >= own.harts.len() {
-        return advance(state, place, step);
+        return state.step_at(place, step);
     }
     let ahead = put_front(text, texts, symbols, place, own, step)?;
-    advance(state, place, step)?;
+    state.step_at(place, step)?;
     let Some(after) = hart_after(state, step) else {
         return Ok(());
     };
@@ -76,13 +77,13 @@ pub(crate) fn put_plain_line(
     symbols: &[Symbol],
     begun: Option<u64>,
     due: &Due<'_>,
-) -> Result<(), ListFault>
+) -> Result<(), ReplayFault>
     requires plain { is_plain_of due.now.step.now.kind ≡ true }
     requires kept { AreKept symbols.now texts.old }
     ensures leads { OnOk result (Leads state.old due.now.step.now state.new) }
     ensures puts { OnOk result (PutsPlainLine symbols.now state.old due.now.place due.now.phase due.now.step.now state.new begun text.old.items text.new.items) }
     ensures kept { OnOk result (AreKept symbols.now texts.new) }
-    ensures fault { IfErr result (PutFaultHolds state.old due.now.place due.now.step.now) }
+    ensures fault { IfErr result (StepBreaks state.old due.now.place due.now.step.now) }
 {
     close(text, begun)?;
     put_plain(state, text, texts, symbols, due.place, due.step)?;

@@ -1,19 +1,20 @@
 //! A record in tables.
 
 ghost use Rattle.std.specs.Prelude.{◌≡◌, ◌≤◌, ◌/◌, ◌++◌, ◌<◌, ◌^◌, [], IfErr, IfOk, OnOk, length};
+ghost use Rattle.cl_replay.specs.InnerReplaying.{ReplayFaultHolds, StepBreaks};
 ghost use Rattle.cl_replay.specs.Replaying.{IsReached};
 ghost use Rattle.cl_replay.specs.Steps.{Leads};
 ghost use Rattle.rvmc_list.specs.List.{ListFaultHolds};
-ghost use Rattle.rvmc_list.specs.Putting.{IsStart, PutFaultHolds, StepsFaultHolds};
+ghost use Rattle.rvmc_list.specs.Putting.{IsStart};
 ghost use Rattle.rvmc_list.specs.Stats.{IsStats, IsTablesText, text_words};
 ghost use Rattle.rvmc_list.specs.Counting.{AreAllCounted, CountsStep};
 ghost use Rattle.rvmc_stats.specs.Tables.{AreOf};
 
 use crate::folding::{Wanted, is_of_rank};
 use crate::places::put_places;
-use crate::walk::{ListFault, advance, do_step, start};
+use crate::walk::{ListFault, do_step, start};
 use cl_machine::Step;
-use cl_replay::ClusterState;
+use cl_replay::{ClusterState, ReplayFault};
 use rv_image_types::{Image, Symbol};
 use rvmc_stats::{Tables, put_calls, put_messages, put_turns};
 use std::alloc::{AllocError, Global};
@@ -27,13 +28,13 @@ fn count_step(
     rank: Option<u64>,
     place: u64,
     step: &Step,
-) -> Result<(), ListFault>
+) -> Result<(), ReplayFault>
     ensures leads { OnOk result (Leads state.old step.now state.new) }
     ensures counts { OnOk result (CountsStep rank state.old place step.now state.new tables.old tables.new) }
-    ensures fault { IfErr result (PutFaultHolds state.old place step.now) }
+    ensures fault { IfErr result (StepBreaks state.old place step.now) }
 {
     if !is_of_rank(rank, step.rank()) {
-        return advance(state, place, step);
+        return state.step_at(place, step);
     }
     let Some(done) = do_step(state, place, step)? else {
         return Ok(());
@@ -50,11 +51,11 @@ fn count_steps(
     steps: &[Step],
     wanted: &Wanted,
     to: u64,
-) -> Result<(), ListFault>
+) -> Result<(), ReplayFault>
     requires reached { IsReached image.now steps.now wanted.now.from state.old }
     requires within { to ≤ length steps.now }
     ensures counted { OnOk result (AreAllCounted image.now steps.now wanted.now to tables.old tables.new) }
-    ensures fault { IfErr result (StepsFaultHolds image.now steps.now to) }
+    ensures fault { IfErr result (ReplayFaultHolds image.now steps.now to) }
 {
     for n in wanted.from..to {
         count_step(state, tables, wanted.rank, n, &steps[n as usize])?;

@@ -1,18 +1,19 @@
 //! The steps of a record, done one after another.
 
-ghost use Rattle.std.specs.Prelude.{◌≡◌, ◌≤◌, ◌<◌, ◌||◌, IfErr, IfOk, OnOk, false, length, max, nat_lt};
+ghost use Rattle.std.specs.Prelude.{◌≡◌, ◌≤◌, IfErr, IfOk, OnOk, false, length, max};
 ghost use Rattle.std.specs.Option.{option_copied};
-ghost use Rattle.cl_replay.specs.Replaying.{IsReached};
+ghost use Rattle.cl_replay.specs.InnerReplaying.{StepBreaks};
 ghost use Rattle.cl_replay.specs.Steps.{Leads};
-ghost use Rattle.rvmc_list.specs.List.{ListFaultHolds, is_past as is_past_of, last_place};
+ghost use Rattle.cl_replay.specs.declared.replaying.ReplayFault.TheVariants as replay;
+ghost use Rattle.rvmc_list.specs.List.{ListFaultHolds, furthest, last_place};
 ghost use Rattle.rvmc_list.specs.List.{names_no_rank as names_no_rank_of};
-ghost use Rattle.rvmc_list.specs.Putting.{IsDone, IsHartAfter, IsLook, IsOverflowAfter, IsStart, PutFaultHolds, StepsFaultHolds};
+ghost use Rattle.rvmc_list.specs.Putting.{IsDone, IsHartAfter, IsLook, IsOverflowAfter, IsStart};
 ghost use Rattle.rvmc_list.specs.Written.{IsChecked};
 ghost use Rattle.rvmc_list.specs.declared.walk.ListFault.TheVariants as faults;
 
 use crate::folding::Wanted;
 use cl_machine::Step;
-use cl_replay::{ClusterState, ReplayFault, StepFault, replay};
+use cl_replay::{ClusterState, ReplayFault, replay};
 use rv_hart::Hart;
 use rv_image_types::Image;
 use rvmc_places::has_overflowed;
@@ -25,27 +26,31 @@ use std::io;
 pub enum ListFault {
     /// 1: the image has no such rank.
     NoRank,
-    /// 2: a place is behind the end. Carries the number of steps.
-    PastEnd(u64),
-    /// 3: the machine has no such step where the steps before it lead. Carries its number, from 0.
-    NotARun(u64),
-    /// 4: memory was refused.
-    Memory,
+    /// 2: the steps aren't replayed up to where the list begins and ends.
+    Replay(ReplayFault),
 }
 
 impl From<AllocError> for ListFault {
-    ghost from_gives = { λ _ e. e ≡ faults.Memory };
+    ghost from_gives = { λ _ e. e ≡ faults.Replay replay.Memory };
 
     fn from(_e: AllocError) -> ListFault {
-        ListFault::Memory
+        ListFault::Replay(ReplayFault::Memory)
     }
 }
 
 impl From<io::Error> for ListFault {
-    ghost from_gives = { λ _ e. e ≡ faults.Memory };
+    ghost from_gives = { λ _ e. e ≡ faults.Replay replay.Memory };
 
     fn from(_e: io::Error) -> ListFault {
-        ListFault::Memory
+        ListFault::Replay(ReplayFault::Memory)
+    }
+}
+
+impl From<ReplayFault> for ListFault {
+    ghost from_gives = { λ fault e. e ≡ faults.Replay fault };
+
+    fn from(fault: ReplayFault) -> ListFault {
+        ListFault::Replay(fault)
     }
 }
 
@@ -80,18 +85,6 @@ pub(crate) fn has_overflowed_after(state: &ClusterState, step: &Step) -> bool
     }
 }
 
-/// Does a step that stands at this place.
-pub(crate) fn advance(state: &mut ClusterState, place: u64, step: &Step) -> Result<(), ListFault>
-    ensures leads { OnOk result (Leads state.old step.now state.new) }
-    ensures fault { IfErr result (PutFaultHolds state.old place step.now) }
-{
-    match state.step(step) {
-        Ok(()) => Ok(()),
-        Err(StepFault::NotAStep) => Err(ListFault::NotARun(place)),
-        Err(StepFault::Memory) => Err(ListFault::Memory),
-    }
-}
-
 /// What was seen of a step that was done: before it, and after it.
 #[derive(Clone, Copy, Drop)]
 pub(crate) struct Done {
@@ -104,13 +97,13 @@ pub(crate) fn do_step(
     state: &mut ClusterState,
     place: u64,
     step: &Step,
-) -> Result<Option<Done>, ListFault>
+) -> Result<Option<Done>, ReplayFault>
     ensures leads { OnOk result (Leads state.old step.now state.new) }
     ensures done { IfOk result (λ done. IsDone state.old step.now state.new done) }
-    ensures fault { IfErr result (PutFaultHolds state.old place step.now) }
+    ensures fault { IfErr result (StepBreaks state.old place step.now) }
 {
     let before = look_at(state, step)?;
-    advance(state, place, step)?;
+    state.step_at(place, step)?;
     let Some(before) = before else {
         return Ok(None);
     };
@@ -130,32 +123,6 @@ fn names_no_rank(rank: Option<u64>, ranks: u8) -> bool
     }
 }
 
-/// Whether a list would begin or end behind the last step.
-fn is_past(from: u64, to: u64, len: u64) -> bool
-    ensures { result ≡ nat_lt len from || nat_lt len to }
-{
-    from > len || to > len
-}
-
-/// The cluster at a place.
-pub(crate) fn state_at(
-    alloc: Global,
-    image: &Image,
-    steps: &[Step],
-    place: u64,
-) -> Result<ClusterState, ListFault>
-    requires { place ≤ length steps.now }
-    ensures reached { IfOk result (IsReached image.now steps.now place) }
-    ensures fault { IfErr result (StepsFaultHolds image.now steps.now place) }
-{
-    match replay(alloc, image, steps, place) {
-        Ok(state) => Ok(state),
-        Err(ReplayFault::Step(n)) => Err(ListFault::NotARun(n)),
-        Err(ReplayFault::Memory) => Err(ListFault::Memory),
-        Err(ReplayFault::PastEnd(_)) => unreachable!(),
-    }
-}
-
 /// The place where what is wanted ends.
 ///
 /// Refusals, in this order: NoRank where the image hasn't the rank; PastEnd where what is wanted begins or ends behind the
@@ -163,7 +130,7 @@ pub(crate) fn state_at(
 fn end_of(image: &Image, steps: &[Step], wanted: &Wanted) -> Result<u64, ListFault>
     ensures end { IfOk result (λ to. to ≡ last_place wanted.now steps.now) }
     ensures rank { OnOk result (names_no_rank_of wanted.now.rank image.now.ranks ≡ false) }
-    ensures within { OnOk result (is_past_of wanted.now steps.now ≡ false) }
+    ensures within { OnOk result (furthest wanted.now steps.now ≤ length steps.now) }
     ensures fault { IfErr result (ListFaultHolds image.now steps.now wanted.now) }
 {
     if names_no_rank(wanted.rank, image.parts().ranks) {
@@ -171,8 +138,8 @@ fn end_of(image: &Image, steps: &[Step], wanted: &Wanted) -> Result<u64, ListFau
     }
     let len = steps.len() as u64;
     let to = wanted.to.unwrap_or(len);
-    if is_past(wanted.from, to, len) {
-        return Err(ListFault::PastEnd(len));
+    if wanted.from.max(to) > len {
+        return Err(ListFault::Replay(ReplayFault::PastEnd(len)));
     }
     Ok(to)
 }
@@ -180,7 +147,8 @@ fn end_of(image: &Image, steps: &[Step], wanted: &Wanted) -> Result<u64, ListFau
 /// The cluster at a place of a record, which isn't behind the first step that is wanted.
 ///
 /// Refusals, in this order: NoRank where the image hasn't the rank; PastEnd where what is wanted begins or ends behind the
-/// last step; NotARun where a step before the place is none of the machine; Memory.
+/// last step; Step where a step before the place is none of the machine; Memory.
+#[tactic(auto, using(crate::proofs::Told::list_fault))]
 pub(crate) fn start(
     alloc: Global,
     image: &Image,
@@ -193,7 +161,7 @@ pub(crate) fn start(
     ensures fault { IfErr result (ListFaultHolds image.now steps.now wanted.now) }
 {
     let to = end_of(image, steps, wanted)?;
-    let state = state_at(alloc, image, steps, place)?;
+    let state = replay(alloc, image, steps, place)?;
     Ok((state, to))
 }
 
@@ -201,7 +169,7 @@ pub(crate) fn start(
 /// and nothing is kept of them.
 ///
 /// Refusals, in this order: NoRank where the image hasn't the rank; PastEnd where what is wanted begins or ends behind the
-/// last step; NotARun where a step before the list's end is none of the machine; Memory.
+/// last step; Step where a step before the list's end is none of the machine; Memory.
 pub(crate) fn checked(
     alloc: Global,
     image: &Image,
@@ -213,8 +181,8 @@ pub(crate) fn checked(
     ensures fault { IfErr result (ListFaultHolds image.now steps.now wanted.now) }
 {
     let to = end_of(image, steps, wanted)?;
-    match state_at(alloc, image, steps, wanted.from.max(to)) {
+    match replay(alloc, image, steps, wanted.from.max(to)) {
         Ok(_) => Ok(to),
-        Err(fault) => Err(fault),
+        Err(fault) => Err(ListFault::Replay(fault)),
     }
 }

@@ -8,19 +8,18 @@ use Rattle.std.proofs.KnownBytes.{Appends-nil, Appends-trans, Keeps-refl}
 use lib.Seq.{take-append_seam}
 use Rattle.rv_image_types.specs.declared.images.ImageParts.{ImageParts}
 use Rattle.cl_machine.specs.declared.steps.Step.{Step}
-use Rattle.rvmc_changes.proofs.Below.{run_law}
+use Rattle.rvmc_changes.proofs.Below.{holds_further, run_law}
 use Rattle.rvmc_changes.proofs.Walked.{has_ended, rest_there}
-use Rattle.rvmc_changes.specs.Below.{ClusterState, IsReached, IsRunUpTo}
+use Rattle.rvmc_changes.specs.Below.{ClusterState, IsReached, IsRunUpTo, ReplayFault, ReplayFaultHolds}
+use Rattle.rvmc_changes.specs.Below.replay
 use Rattle.rvmc_changes.specs.Changes.{Difference}
-use Rattle.rvmc_changes.specs.WalkFaults.{PlaceFaultHolds, StepsBreak}
+use Rattle.rvmc_changes.specs.WalkFaults.{StepsBreak}
 use Rattle.rvmc_changes.specs.Walking.{GoesOn, HasCome}
 use Rattle.rvmc_changes.specs.Walks.{IsWalk, seen_at_start}
-use Rattle.rvmc_changes.specs.declared.walks.WalkFault.{WalkFault}
-use Rattle.rvmc_changes.specs.declared.walks.WalkFault.TheVariants as walk
 use Rattle.rvmc_draw.specs.declared.views.View.{View}
 use Rattle.rvmc_picture.proofs.Runs.{deeds_run}
 use Rattle.rvmc_picture.specs.Below.{IsMoved}
-use Rattle.rvmc_picture.specs.Pictures.{DrawFaultHolds}
+use Rattle.rvmc_picture.specs.Pictures.{DrawFaultHolds, furthest}
 use Rattle.rvmc_picture.specs.declared.pictures.DrawFault.{DrawFault}
 use Rattle.rvmc_picture.specs.declared.pictures.DrawFault.TheVariants as draw
 use Rattle.rvmc_page.specs.Pages.{before_steps, behind_steps, page_of}
@@ -30,8 +29,6 @@ use Rattle.rvmc_page.specs.Texts.{Source, source_of}
 use Rattle.rvmc_page.specs.Written.{AreWritten, IsPageBegun, IsPageTo, IsPageWritten, LeavesPage}
 use Rattle.rvmc_page.specs.declared.pages.Page.{Page}
 use Rattle.rvmc_page.specs.declared.pages.Shown.{Shown}
-use Rattle.rvmc_page.specs.declared.records.PageFault.{PageFault}
-use Rattle.rvmc_page.specs.declared.records.PageFault.TheVariants as fault
 
 -- ---- the steps
 
@@ -47,19 +44,21 @@ too_many_run image steps view count f is holds =
     let many = (subst (λ (d : DrawFault). DrawFaultHolds image steps view d) is holds).1 in
     deeds_run image steps many.deeds many.are
 
--- of a run no step is none of the machine
-pub no_place_fault : (image : ImageParts) (steps : List Step) (n k : ℕ) → IsRunUpTo image steps (length steps)
-    → n ≤ length steps → (f : WalkFault) → f ≡ walk.NotARun k → PlaceFaultHolds image steps n f → ⊥
-no_place_fault image steps n k run within f is holds =
-    let h = subst (λ (w : WalkFault). PlaceFaultHolds image steps n w) is holds in
-    let below = h.0 in run_law image steps (length steps) k run (omega (arith, below, within)) h.1
+-- why the steps before the first place aren't done is why there is no page
+pub page_fault : (image : ImageParts) (steps : List Step) (view : View) → furthest view steps ≤ length steps
+    → (why : ReplayFault) → ReplayFaultHolds image steps view.from why
+    → ReplayFaultHolds image steps (furthest view steps) why
+page_fault image steps view within why h =
+    holds_further image steps view.from (furthest view steps) (omega arith) within why h
 
-pub no_step_fault : (image : ImageParts) (steps : List Step) (from to k : ℕ) (old : ClusterState)
+-- the steps of a run are refused for memory alone
+pub only_memory : (image : ImageParts) (steps : List Step) (from to : ℕ) (old : ClusterState)
     → IsRunUpTo image steps (length steps) → IsReached image steps from old → to ≤ length steps
-    → (f : WalkFault) → f ≡ walk.NotARun k → StepsBreak steps from old to f → ⊥
-no_step_fault image steps from to k old run reached within f is holds =
-    let h = subst (λ (w : WalkFault). StepsBreak steps from old to w) is holds in
-    let below = h.0 in run_law image steps (length steps) k run (omega (arith, below, within)) (h.1 image reached)
+    → (why : ReplayFault) → StepsBreak steps from old to why → why ≡ replay.Memory
+only_memory image steps from to old run reached within (replay.Step k) h = absurd
+    (let below = h.0 in run_law image steps (length steps) k run (omega (arith, below, within)) (h.1 image reached))
+only_memory image steps from to old run reached within replay.Memory h = refl
+only_memory image steps from to old run reached within (replay.PastEnd len) h = absurd h
 
 -- ---- what is put behind what was written
 
@@ -169,14 +168,14 @@ anyway (Ok x) P is = tt
 anyway (Err e) P is = is
 
 pub left_for_memory : {A : Type 0} (image : ImageParts) (steps : List Step) (view : View) (sources : List Source)
-    (before after : Option (List ℕ)) (r : Result A PageFault) → IfErr r (λ f. f ≡ fault.Memory)
+    (before after : Option (List ℕ)) (r : Result A ReplayFault) → IfErr r (λ f. f ≡ replay.Memory)
     → IsPageBegun image steps view sources before after → IfErr r (λ f. LeavesPage image steps view sources f before after)
 left_for_memory image steps view sources before after (Ok x) is begun = tt
 left_for_memory image steps view sources before after (Err e) is begun =
-    subst (λ (f : PageFault). LeavesPage image steps view sources f before after) (sym is) (inr begun)
+    subst (λ (f : ReplayFault). LeavesPage image steps view sources f before after) (sym is) (inr begun)
 
-pub nothing_left : (image : ImageParts) (steps : List Step) (view : View) (sources : List Source) (why : PageFault)
+pub nothing_left : (image : ImageParts) (steps : List Step) (view : View) (sources : List Source) (why : ReplayFault)
     (known : Option (List ℕ)) → LeavesPage image steps view sources why known known
-nothing_left image steps view sources fault.Memory known = inl (Keeps-refl known)
-nothing_left image steps view sources (fault.PastEnd len) known = Keeps-refl known
-nothing_left image steps view sources (fault.NotARun n) known = Keeps-refl known
+nothing_left image steps view sources replay.Memory known = inl (Keeps-refl known)
+nothing_left image steps view sources (replay.PastEnd len) known = Keeps-refl known
+nothing_left image steps view sources (replay.Step n) known = Keeps-refl known

@@ -1,21 +1,18 @@
--- The page of a record, and why there is none.
-use Rattle.std.specs.Prelude.{ℕ, ◌≡◌, true, false, List, length, map, Option, Some, None}
+-- The page of a record.
+use Rattle.std.specs.Prelude.{ℕ, ◌≡◌, List, map, Option, Some, None}
 use Rattle.std.specs.List.{All}
 use Rattle.rv_image_types.specs.declared.images.ImageParts.{ImageParts}
 use Rattle.cl_machine.specs.declared.steps.Step.{Step}
-use Rattle.rvmc_picture.specs.Below.{BreaksAt}
 use Rattle.rvmc_changes.specs.Changes.{Difference}
 use Rattle.rvmc_changes.specs.Walks.{IsWalk, seen_at_start}
 use Rattle.rvmc_draw.specs.declared.views.View.{View}
-use Rattle.rvmc_picture.specs.Pictures.{HasTooMany, IsDrawing, is_past_end}
+use Rattle.rvmc_picture.specs.Pictures.{HasTooMany, IsDrawing}
 use Rattle.rvmc_svg.specs.Safe.{IsAllowed}
 use Rattle.rvmc_svg.specs.Shown.{IsShown}
 use Rattle.rvmc_page.specs.Pages.{page_of}
 use Rattle.rvmc_page.specs.Texts.{Source, source_of}
 use Rattle.rvmc_page.specs.declared.pages.Page.{Page}
 use Rattle.rvmc_page.specs.declared.pages.Shown.{Shown}
-use Rattle.rvmc_page.specs.declared.records.PageFault.{PageFault}
-use Rattle.rvmc_page.specs.declared.records.PageFault.TheVariants as fault
 
 -- the drawing of the steps in view, and its picture as `draw` gives it; none where they have more marks than are drawn
 abbrev pub IsShownOf : ImageParts → List Step → View → Option Shown → Type 0
@@ -39,11 +36,3 @@ pub record IsPage (image : ImageParts) (steps : List Step) (view : View) (source
   pub changes : List Difference
   pub is : IsPageOf image steps view sources page changes
   pub text_is : text ≡ page_of image page changes
-
--- ---- why there is none
-
--- places behind the end; a step that the machine doesn't have where those before it lead; or memory
-abbrev pub PageFaultHolds : ImageParts → List Step → View → PageFault → Type 0
-PageFaultHolds image steps view (fault.PastEnd len) = (is_past_end view steps ≡ true) × (len ≡ length steps)
-PageFaultHolds image steps view (fault.NotARun n) = (is_past_end view steps ≡ false) × BreaksAt image steps n
-PageFaultHolds image steps view fault.Memory = is_past_end view steps ≡ false

@@ -4,7 +4,8 @@ use Rattle.std.specs.Io.{StartsWith}
 use Rattle.std.specs.Io.KnownBytes.{Appends, Keeps}
 use Rattle.rv_image_types.specs.declared.images.ImageParts.{ImageParts}
 use Rattle.cl_machine.specs.declared.steps.Step.{Step}
-use Rattle.rvmc_changes.specs.Below.{ClusterState, IsRunUpTo}
+use Rattle.rvmc_changes.specs.Below.{ClusterState, IsRunUpTo, ReplayFault}
+use Rattle.rvmc_changes.specs.Below.replay
 use Rattle.rvmc_changes.specs.Changes.{Difference}
 use Rattle.rvmc_changes.specs.Walking.{HasCome}
 use Rattle.rvmc_changes.specs.Walks.{seen_at_start}
@@ -14,8 +15,6 @@ use Rattle.rvmc_page.specs.Records.{IsPage, IsShownOf}
 use Rattle.rvmc_page.specs.Steps.{changes_text}
 use Rattle.rvmc_page.specs.Texts.{Source}
 use Rattle.rvmc_page.specs.declared.pages.Page.{Page}
-use Rattle.rvmc_page.specs.declared.records.PageFault.{PageFault}
-use Rattle.rvmc_page.specs.declared.records.PageFault.TheVariants as fault
 
 -- all of its text, behind what stood there
 pub record IsPageWritten (image : ImageParts) (steps : List Step) (view : View) (sources : List Source)
@@ -34,8 +33,9 @@ pub record IsPageBegun (image : ImageParts) (steps : List Step) (view : View) (s
   pub there : Appends old new front
 
 -- where it is refused: nothing; or, where memory is refused while it is written, a beginning
-abbrev pub LeavesPage : ImageParts → List Step → View → List Source → PageFault → Option (List ℕ) → Option (List ℕ) → Type 0
-LeavesPage image steps view sources fault.Memory old new = Keeps old new ⊎ IsPageBegun image steps view sources old new
+abbrev pub LeavesPage : ImageParts → List Step → View → List Source → ReplayFault → Option (List ℕ) → Option (List ℕ)
+    → Type 0
+LeavesPage image steps view sources replay.Memory old new = Keeps old new ⊎ IsPageBegun image steps view sources old new
 LeavesPage image steps view sources other old new = Keeps old new
 
 -- ---- the way there

@@ -23,6 +23,6 @@ mod told;
 mod writing;
 
 pub use pages::{Page, Part, Shown};
-pub use records::{PageFault, page};
+pub use records::page;
 pub use rvmc_picture::{DrawFault, drawing};
 pub use texts::SourceText;

@@ -2,19 +2,18 @@
 
 ghost use Rattle.std.specs.Prelude.{◌≡◌, ◌≤◌, ◌++◌, [], IfErr, IfOk, OnErr, OnOk, length, map, max, true};
 ghost use Rattle.rvmc_changes.specs.Below.{IsReached, IsRunUpTo};
+ghost use Rattle.rvmc_changes.specs.Below.replay as faults;
 ghost use Rattle.rvmc_changes.specs.Given.{differences};
 ghost use Rattle.rvmc_changes.specs.Walking.{GoesOn};
 ghost use Rattle.rvmc_page.specs.Pages.{before_steps};
 ghost use Rattle.rvmc_page.specs.Texts.{source_of};
 ghost use Rattle.rvmc_page.specs.Written.{AreWritten, IsPageBegun, IsPageTo, IsPageWritten, LeavesPage, view_to};
-ghost use Rattle.rvmc_page.specs.declared.records.PageFault.TheVariants as faults;
 
 use crate::pages::{Page, put_before, put_behind};
-use crate::records::PageFault;
 use crate::steps::put_changes;
 use cl_machine::Step;
 use rv_image_types::Image;
-use rvmc_changes::{Change, ClusterState, WalkFault, go_on};
+use rvmc_changes::{Change, ClusterState, ReplayFault, go_on};
 use rvmc_picture::put_piece;
 use std::alloc::Global;
 use std::io::Write;
@@ -22,7 +21,7 @@ use std::io::Write;
 /// How many steps are done before their changes are put.
 const STRETCH: u64 = 1024;
 
-/// The changes of the steps from one place to another, which are done, of steps that are a run.
+/// The changes of the steps from one place to another, which are done, of steps that are a run. So the only fault is Memory.
 fn changes_of(
     alloc: Global,
     image: &Image,
@@ -30,7 +29,7 @@ fn changes_of(
     state: &mut ClusterState,
     from: u64,
     to: u64,
-) -> Result<Vec<Change>, PageFault>
+) -> Result<Vec<Change>, ReplayFault>
     requires order { from ≤ to }
     requires within { to ≤ length steps.now }
     requires run { IsRunUpTo image.now steps.now (length steps.now) }
@@ -38,11 +37,7 @@ fn changes_of(
     ensures on { IfOk result (λ changes. GoesOn steps.now from state.old to state.new (differences changes.items)) }
     ensures fault { IfErr result (λ fault. fault ≡ faults.Memory) }
 {
-    match go_on(alloc, state, steps, from, to) {
-        Ok(changes) => Ok(changes),
-        Err(WalkFault::Memory) => Err(PageFault::Memory),
-        Err(WalkFault::NotARun(_)) => unreachable!(),
-    }
+    go_on(alloc, state, steps, from, to)
 }
 
 /// Does the steps up to a place, and writes what each changed, but for what is still held then. Says whether the writer took
@@ -56,7 +51,7 @@ fn put_steps<W: Write>(
     state: &mut ClusterState,
     text: &mut Vec<u8>,
     out: &mut W,
-) -> Result<bool, PageFault>
+) -> Result<bool, ReplayFault>
     requires shown { IsPageTo image.now steps.now (view_to page.now.from to) page.now page.now.from [] state.old }
     requires held { text.old.items ≡ before_steps image.now page.now }
     requires within { max page.now.from to ≤ length steps.now }
@@ -89,7 +84,7 @@ pub(crate) fn put_page<W: Write>(
     to: u64,
     state: &mut ClusterState,
     out: &mut W,
-) -> Result<bool, PageFault>
+) -> Result<bool, ReplayFault>
     requires shown { IsPageTo image.now steps.now (view_to page.now.from to) page.now page.now.from [] state.old }
     requires within { max page.now.from to ≤ length steps.now }
     ensures page { IfOk result (λ taken. taken ≡ true → IsPageWritten image.now steps.now (view_to page.now.from to)

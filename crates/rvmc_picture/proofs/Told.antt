@@ -12,11 +12,12 @@ use Rattle.mp_match.specs.PostPairs.{pairs}
 use Rattle.mp_match.specs.declared.posts.Line.{Line}
 use Rattle.cl_machine.specs.Cluster.{IsRun, loaded_cluster}
 use Rattle.cl_machine.specs.declared.steps.Step.{Step}
-use Rattle.cl_replay.proofs.Runs.{breaks, reached_more}
-use Rattle.cl_replay.specs.InnerReplaying.{BreaksAt}
+use Rattle.cl_replay.proofs.Runs.{holds_further, reached_more}
+use Rattle.cl_replay.specs.InnerReplaying.{ReplayFaultHolds}
 use Rattle.cl_replay.specs.Replaying.{IsReached}
 use Rattle.cl_replay.specs.States.{ClusterStandsFor}
 use Rattle.cl_replay.specs.Steps.{Leads}
+use Rattle.cl_replay.specs.declared.replaying.ReplayFault.{ReplayFault}
 use Rattle.cl_replay.specs.declared.states.ClusterState.{ClusterState}
 use Rattle.cl_state.specs.Asked.{asked}
 use Rattle.cl_state.specs.Rank.{Rank}
@@ -44,10 +45,9 @@ use Rattle.rvmc_sights.specs.Lines.{hart_of, sight_of, sight_text}
 use Rattle.rvmc_sights.specs.Sights.{IsSightAt}
 use Rattle.rvmc_picture.specs.Deeds.{IsDeedBy, ask_met}
 use Rattle.rvmc_picture.specs.Pictures.{AreArrows, AreDeeds, DrawFaultHolds, HasTooMany, IsDeedAt, IsDrawing, IsEndAt, IsTipOf}
-use Rattle.rvmc_picture.specs.Pictures.{arrows_in, arrows_with, is_past_end, scope_in}
+use Rattle.rvmc_picture.specs.Pictures.{arrows_in, arrows_with, furthest, scope_in}
 use Rattle.rvmc_picture.specs.Walking.{IsDrawn, shown_arrows}
-use Rattle.rvmc_picture.specs.Walking.{ArePut, IsPutAt, IsWalkedTo, Puts, StepBreaks, StepsBreak}
-use Rattle.rvmc_picture.specs.declared.pictures.DrawFault.{DrawFault}
+use Rattle.rvmc_picture.specs.Walking.{ArePut, IsPutAt, IsWalkedTo, Puts}
 use Rattle.rvmc_picture.specs.declared.pictures.DrawFault.TheVariants as fault
 
 -- ---- what a step did
@@ -185,16 +185,6 @@ put_none image steps scope state walk stands walked = record {
       (walked.kept (let count = walked.count in omega (arith, count)));
 }
 
--- why a step wasn't added is why not all were
-pub step_breaks : (image : ImageParts) (steps : List Step) (n : ℕ) (state : ClusterState)
-    → IsReached image steps n state → (e : Step) → slice_get steps n ≡ Some e → (f : DrawFault)
-    → StepBreaks state n e f → StepsBreak image steps f
-step_breaks image steps n state reached e there (fault.NotARun k) h =
-    subst (λ m. BreaksAt image steps m) (sym h.0) (breaks image steps n state reached e there h.1)
-step_breaks image steps n state reached e there fault.Memory h = tt
-step_breaks image steps n state reached e there (fault.PastEnd len) h = absurd h
-step_breaks image steps n state reached e there (fault.TooMany count) h = absurd h
-
 -- ---- the drawing
 
 pub scope_same : (image : ImageParts) (sizes : Sizes) (view : View) → sizes.ranks ≡ image.ranks
@@ -272,9 +262,8 @@ walked_arrows image steps walk rows told walked = record {
 }
 
 -- why not all steps were added is why there is no drawing
-pub fault_holds : (image : ImageParts) (steps : List Step) (view : View) → is_past_end view steps ≡ false → (f : DrawFault)
-    → StepsBreak image steps f → DrawFaultHolds image steps view f
-fault_holds image steps view past (fault.NotARun n) h = (past, h)
-fault_holds image steps view past fault.Memory h = past
-fault_holds image steps view past (fault.PastEnd len) h = absurd h
-fault_holds image steps view past (fault.TooMany count) h = absurd h
+pub draw_fault : (image : ImageParts) (steps : List Step) (view : View) → furthest view steps ≤ length steps
+    → (why : ReplayFault) → ReplayFaultHolds image steps (length steps) why
+    → DrawFaultHolds image steps view (fault.Replay why)
+draw_fault image steps view within why h =
+    holds_further image steps (length steps) (furthest view steps) (omega arith) within why h

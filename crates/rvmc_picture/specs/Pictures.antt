@@ -1,5 +1,5 @@
 -- The drawing of a record.
-use Rattle.std.specs.Prelude.{ℕ, ◌≡◌, ◌<◌, ◌+◌, ◌*◌, ◌||◌, nat_lt, Bool, true, false, List, ◌∷◌, ◌++◌, length, map}
+use Rattle.std.specs.Prelude.{ℕ, ◌≡◌, ◌<◌, ◌≤◌, ◌+◌, ◌*◌, max, List, ◌∷◌, ◌++◌, length, map}
 use Rattle.std.specs.Prelude.{slice_get, take, Option, Some, None, []}
 use Rattle.std.specs.List.{All, flat_map}
 use Rattle.std.specs.Option.{unwrap_or}
@@ -10,7 +10,7 @@ use Rattle.cl_state.specs.Asked.{asked}
 use Rattle.cl_state.specs.Rank.{Rank}
 use Rattle.cl_machine.specs.Cluster.{Cluster, IsRun, IsStep, loaded_cluster}
 use Rattle.cl_machine.specs.declared.steps.Step.{Step}
-use Rattle.cl_replay.specs.InnerReplaying.{BreaksAt}
+use Rattle.cl_replay.specs.InnerReplaying.{ReplayFaultHolds}
 use Rattle.cl_replay.specs.Replaying.{IsReached}
 use Rattle.cl_replay.specs.declared.states.ClusterState.{ClusterState}
 use Rattle.rvmc_draw.specs.Board.{lost, posts_made, spots_made}
@@ -133,9 +133,9 @@ pub record IsDrawing (image : ImageParts) (steps : List Step) (view : View) (dra
 abbrev pub view_of : ℕ → Option ℕ → List Step → View
 view_of from to steps = record { from = from; to = unwrap_or to (length steps) }
 
--- a place is behind the last step
-abbrev pub is_past_end : View → List Step → Bool
-is_past_end view steps = nat_lt (length steps) view.from || nat_lt (length steps) view.to
+-- the steps are replayed, all of them and up to the places that are drawn
+abbrev pub furthest : View → List Step → ℕ
+furthest view steps = max (length steps) (max view.from view.to)
 
 -- more steps have a mark than are drawn
 pub record HasTooMany (image : ImageParts) (steps : List Step) (view : View) (count : ℕ) : Type 0 where
@@ -144,10 +144,8 @@ pub record HasTooMany (image : ImageParts) (steps : List Step) (view : View) (co
   pub marks : count ≡ length (marks_of (scope_in image view) deeds)
   pub many : 5000 < count
 
--- places behind the end; a step that the machine doesn't have where those before it lead; too many marks; or memory
+-- why the steps weren't replayed, or too many marks
 abbrev pub DrawFaultHolds : ImageParts → List Step → View → DrawFault → Type 0
-DrawFaultHolds image steps view (fault.PastEnd len) = (is_past_end view steps ≡ true) × (len ≡ length steps)
-DrawFaultHolds image steps view (fault.NotARun n) = (is_past_end view steps ≡ false) × BreaksAt image steps n
+DrawFaultHolds image steps view (fault.Replay why) = ReplayFaultHolds image steps (furthest view steps) why
 DrawFaultHolds image steps view (fault.TooMany count) =
-    (is_past_end view steps ≡ false) × HasTooMany image steps view count
-DrawFaultHolds image steps view fault.Memory = is_past_end view steps ≡ false
+    (furthest view steps ≤ length steps) × HasTooMany image steps view count

@@ -5,9 +5,7 @@ use Rattle.rv_image_types.specs.declared.images.ImageParts.{ImageParts}
 use Rattle.rv_image_types.specs.declared.images.Link.{Link}
 use Rattle.rv_image_types.specs.declared.images.Symbol.{Symbol}
 use Rattle.cl_machine.specs.declared.steps.Step.{Step}
-use Rattle.cl_replay.specs.InnerReplaying.{BreaksAt}
 use Rattle.cl_replay.specs.Replaying.{IsReached}
-use Rattle.cl_replay.specs.Steps.{LeadsNowhere}
 use Rattle.cl_replay.specs.declared.states.ClusterState.{ClusterState}
 use Rattle.cl_state.specs.Asked.{asked}
 use Rattle.cl_state.specs.Rank.{Rank}
@@ -31,8 +29,6 @@ use Rattle.rvmc_sights.specs.Lines.{hart_of, sight_of, sight_text}
 use Rattle.rvmc_sights.specs.Seen.{IsSeenBefore}
 use Rattle.rvmc_picture.specs.Deeds.{IsDeedBy, ask_met}
 use Rattle.rvmc_picture.specs.Pictures.{AreDeeds, IsEndAt, IsTipOf, arrows_with, scope_in}
-use Rattle.rvmc_picture.specs.declared.pictures.DrawFault.{DrawFault}
-use Rattle.rvmc_picture.specs.declared.pictures.DrawFault.TheVariants as fault
 use Rattle.rvmc_picture.specs.declared.walking.Before.{Before}
 
 -- what is known of a step before it is done; nothing is only where the rank hasn't the step's hart
@@ -59,18 +55,6 @@ Puts symbols old place e new walk after =
     (s t : RankState) → slice_get old.ranks.items e.rank ≡ Some s → slice_get new.ranks.items e.rank ≡ Some t
     → e.hart < length s.harts.items → e.hart < length t.harts.items
     → IsPutAt symbols place e (rank_of s) (rank_of t) walk after
-
--- why a step wasn't added
-abbrev pub StepBreaks : ClusterState → ℕ → Step → DrawFault → Type 0
-StepBreaks old place e (fault.NotARun n) = (n ≡ place) × LeadsNowhere old e
-StepBreaks old place e fault.Memory = Unit {0}
-StepBreaks old place e _ = ⊥
-
--- why not all were
-abbrev pub StepsBreak : ImageParts → List Step → DrawFault → Type 0
-StepsBreak image steps (fault.NotARun n) = BreaksAt image steps n
-StepsBreak image steps fault.Memory = Unit {0}
-StepsBreak image steps _ = ⊥
 
 -- the first n steps were added, and the state is the cluster to which they lead
 pub record ArePut (image : ImageParts) (steps : List Step) (scope : Scope) (n : ℕ) (state : ClusterState) (walk : Walk)

@@ -1,53 +1,50 @@
 //! The drawing of a record.
 
-ghost use Rattle.std.specs.Prelude.{◌≡◌, ◌≤◌, ◌||◌, ◌++◌, [], IfErr, IfOk, OnOk, length, nat_lt};
+ghost use Rattle.std.specs.Prelude.{◌≡◌, ◌≤◌, ◌++◌, [], IfErr, IfOk, OnOk, length};
 ghost use Rattle.cl_machine.specs.Cluster.{loaded_cluster};
+ghost use Rattle.cl_replay.specs.InnerReplaying.{ReplayFaultHolds};
 ghost use Rattle.cl_replay.specs.States.{ClusterStandsFor};
-ghost use Rattle.rvmc_picture.specs.Pictures.{AreArrows, DrawFaultHolds, IsDrawing, is_past_end as is_past_of};
+ghost use Rattle.cl_replay.specs.declared.replaying.ReplayFault.TheVariants as replay;
+ghost use Rattle.rvmc_picture.specs.Pictures.{AreArrows, DrawFaultHolds, IsDrawing};
 ghost use Rattle.rvmc_picture.specs.declared.pictures.DrawFault.TheVariants as faults;
 ghost use Rattle.rvmc_picture.specs.Pictures.{arrow_untaken as arrow_untaken_of, arrows_with, one_untaken, receiver_of, scope_in};
 ghost use Rattle.rvmc_picture.specs.Pictures.{view_of as view_in};
 ghost use Rattle.rvmc_picture.specs.Walking.{IsDrawn, shown_arrows};
-ghost use Rattle.rvmc_picture.specs.Walking.{IsWalkedTo, StepsBreak};
+ghost use Rattle.rvmc_picture.specs.Walking.{IsWalkedTo};
 ghost use Rattle.rvmc_draw.specs.Held.{IsWalked};
 
 use crate::ends::{End, end_of};
 use crate::walking::put_steps;
 use cl_machine::Step;
-use cl_replay::ClusterState;
+use cl_replay::{ClusterState, ReplayFault};
 use rv_image_types::{Image, Link};
 use rvmc_draw::{
     Arrow, Board, Carried, Drawing, MARKS_MAX, Sizes, Untaken, View, Walk, arrows_seen, bars_seen,
 };
 use std::alloc::{AllocError, Global};
-use std::io;
 
 /// Why a record isn't drawn.
 #[derive(Clone, Copy, Drop)]
 pub enum DrawFault {
-    /// 1: a place is behind the end. Carries the number of steps.
-    PastEnd(u64),
-    /// 2: the machine has no such step where the steps before it lead. Carries its number, from 0.
-    NotARun(u64),
-    /// 3: more than 5,000 steps have a mark. Carries how many have.
+    /// 1: the steps aren't replayed, all of them and up to the places that are drawn.
+    Replay(ReplayFault),
+    /// 2: more than 5,000 steps have a mark. Carries how many have.
     TooMany(u64),
-    /// 4: memory was refused.
-    Memory,
 }
 
 impl From<AllocError> for DrawFault {
-    ghost from_gives = { λ _ e. e ≡ faults.Memory };
+    ghost from_gives = { λ _ e. e ≡ faults.Replay replay.Memory };
 
     fn from(_e: AllocError) -> DrawFault {
-        DrawFault::Memory
+        DrawFault::Replay(ReplayFault::Memory)
     }
 }
 
-impl From<io::Error> for DrawFault {
-    ghost from_gives = { λ _ e. e ≡ faults.Memory };
+impl From<ReplayFault> for DrawFault {
+    ghost from_gives = { λ fault e. e ≡ faults.Replay fault };
 
-    fn from(_e: io::Error) -> DrawFault {
-        DrawFault::Memory
+    fn from(fault: ReplayFault) -> DrawFault {
+        DrawFault::Replay(fault)
     }
 }
 
@@ -59,14 +56,6 @@ fn view_of(from: u64, to: Option<u64>, steps: &[Step]) -> View
         from,
         to: to.unwrap_or(steps.len() as u64),
     }
-}
-
-/// Whether a place of the view is behind the last step.
-fn is_past(view: View, steps: &[Step]) -> bool
-    ensures { result ≡ is_past_of view steps.now }
-{
-    let len = steps.len() as u64;
-    view.from > len || view.to > len
 }
 
 /// The sizes of an image's cluster.
@@ -101,12 +90,12 @@ fn walk_from(
     view: View,
     state: &mut ClusterState,
     walk: &mut Walk,
-) -> Result<End, DrawFault>
+) -> Result<End, ReplayFault>
     requires loaded { ClusterStandsFor image.now state.old (loaded_cluster image.now) }
     requires none { IsWalked (scope_in image.now view) [] walk.old }
     requires within { view.to ≤ length steps.now }
     ensures put { IfOk result (λ end. IsWalkedTo image.now steps.now view walk.new end.rows.items end.told.items) }
-    ensures fault { IfErr result (StepsBreak image.now steps.now) }
+    ensures fault { IfErr result (ReplayFaultHolds image.now steps.now (length steps.now)) }
 {
     let to = view.to as usize;
     put_steps(alloc, state, walk, image, steps, view, 0, to)?;
@@ -122,11 +111,11 @@ fn walk_loaded(
     image: &Image,
     steps: &[Step],
     view: View,
-) -> Result<End, DrawFault>
+) -> Result<End, ReplayFault>
     requires none { IsWalked (scope_in image.now view) [] walk.old }
     requires within { view.to ≤ length steps.now }
     ensures put { IfOk result (λ end. IsWalkedTo image.now steps.now view walk.new end.rows.items end.told.items) }
-    ensures fault { IfErr result (StepsBreak image.now steps.now) }
+    ensures fault { IfErr result (ReplayFaultHolds image.now steps.now (length steps.now)) }
 {
     let mut state = ClusterState::load(alloc, image)?;
     walk_from(alloc, image, steps, view, &mut state, walk)
@@ -138,10 +127,10 @@ fn walk_all(
     image: &Image,
     steps: &[Step],
     view: View,
-) -> Result<(Walk, End), DrawFault>
+) -> Result<(Walk, End), ReplayFault>
     requires { view.to ≤ length steps.now }
     ensures put { IfOk result (λ all. IsWalkedTo image.now steps.now view all.0 all.1.rows.items all.1.told.items) }
-    ensures fault { IfErr result (StepsBreak image.now steps.now) }
+    ensures fault { IfErr result (ReplayFaultHolds image.now steps.now (length steps.now)) }
 {
     let mut walk = first_walk(alloc, image, view)?;
     let end = walk_loaded(alloc, &mut walk, image, steps, view)?;
@@ -255,9 +244,9 @@ fn drawn(
 
 /// A record as a drawing: the steps from one place to another, or else to the end, of which at most 5,000 have a mark.
 ///
-/// Refusals, in this order: PastEnd where a place is behind the last step; NotARun where a step is none of the machine,
+/// Refusals, in this order: PastEnd where a place is behind the last step; Step where a step is none of the machine,
 /// TooMany where more have a mark; Memory.
-#[tactic(auto, using(crate::proofs::Told::walked_drawing, crate::proofs::Told::too_many, crate::proofs::Told::fault_holds))]
+#[tactic(auto, using(crate::proofs::Told::walked_drawing, crate::proofs::Told::too_many, crate::proofs::Told::draw_fault))]
 pub fn drawing(
     alloc: Global,
     image: &Image,
@@ -269,25 +258,26 @@ pub fn drawing(
     ensures fault { IfErr result (DrawFaultHolds image.now steps.now (view_in from to steps.now)) }
 {
     let view = view_of(from, to, steps);
-    if is_past(view, steps) {
-        return Err(DrawFault::PastEnd(steps.len() as u64));
+    let len = steps.len() as u64;
+    if view.from.max(view.to) > len {
+        return Err(DrawFault::Replay(ReplayFault::PastEnd(len)));
     }
     let (walk, end) = walk_all(alloc, image, steps, view)?;
     let count = walk.marks.count;
     if count > MARKS_MAX {
         return Err(DrawFault::TooMany(count));
     }
-    let drawing = drawn(alloc, image, view, steps.len() as u64, walk, end)?;
+    let drawing = drawn(alloc, image, view, len, walk, end)?;
     Ok(drawing)
 }
 
 /// The arrows of a record: from the step that sent a message, or made a partition ready, to each that got, claimed or took
-/// it, or could have; and from each whose message or partition nobody got. The fault is NotARun where a step is none of the
+/// it, or could have; and from each whose message or partition nobody got. The fault is Step where a step is none of the
 /// machine, or Memory.
 #[tactic(auto, using(crate::proofs::Told::walked_arrows))]
-pub fn arrows(alloc: Global, image: &Image, steps: &[Step]) -> Result<Vec<Arrow>, DrawFault>
+pub fn arrows(alloc: Global, image: &Image, steps: &[Step]) -> Result<Vec<Arrow>, ReplayFault>
     ensures arrows { IfOk result (λ arrows. AreArrows image.now steps.now arrows.items) }
-    ensures fault { IfErr result (StepsBreak image.now steps.now) }
+    ensures fault { IfErr result (ReplayFaultHolds image.now steps.now (length steps.now)) }
 {
     let view = view_of(0, None, steps);
     let (walk, _) = walk_all(alloc, image, steps, view)?;

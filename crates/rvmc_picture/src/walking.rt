@@ -1,6 +1,7 @@
 //! The steps of a record, one after another.
 
 ghost use Rattle.std.specs.Prelude.{◌≡◌, ◌<◌, ◌≤◌, ◌-◌, ◌^◌, IfErr, IfOk, OnOk, Some, length, slice_get, true, vec_len};
+ghost use Rattle.cl_replay.specs.InnerReplaying.{ReplayFaultHolds, StepBreaks};
 ghost use Rattle.cl_replay.specs.Steps.{Leads};
 ghost use Rattle.cl_state.specs.Asked.{asked};
 ghost use Rattle.cl_state.specs.Rank.{Rank};
@@ -11,13 +12,12 @@ ghost use Rattle.rvmc_picture.specs.Pictures.{scope_in};
 ghost use Rattle.rvmc_sights.specs.Lines.{sight_text};
 ghost use Rattle.rvmc_sights.specs.Seen.{after_of, seen};
 ghost use Rattle.rvmc_picture.specs.Deeds.{ask_met};
-ghost use Rattle.rvmc_picture.specs.Walking.{ArePut, IsBefore, IsLookedAt, IsPutAt, Puts, StepsBreak, StepBreaks};
+ghost use Rattle.rvmc_picture.specs.Walking.{ArePut, IsBefore, IsLookedAt, IsPutAt, Puts};
 
 use crate::deeds::deed_of;
 use crate::notes::note_of;
-use crate::pictures::DrawFault;
 use cl_machine::{KindRef, Step};
-use cl_replay::{ClusterState, StepFault};
+use cl_replay::{ClusterState, ReplayFault};
 use cl_state::{Ask, RankState};
 use cl_trace::Bare;
 use rv_image_types::{Image, Symbol};
@@ -78,18 +78,6 @@ fn look_at(state: &ClusterState, step: &Step) -> Result<Option<Before>, AllocErr
     look_in(own, step)
 }
 
-/// Does a step that stands at this place.
-fn advance(state: &mut ClusterState, place: u64, step: &Step) -> Result<(), DrawFault>
-    ensures leads { OnOk result (Leads state.old step.now state.new) }
-    ensures fault { IfErr result (StepBreaks state.old place step.now) }
-{
-    match state.step(step) {
-        Ok(()) => Ok(()),
-        Err(StepFault::NotAStep) => Err(DrawFault::NotARun(place)),
-        Err(StepFault::Memory) => Err(DrawFault::Memory),
-    }
-}
-
 /// What is told of a step, if it has a mark of its own.
 fn tip_of(
     alloc: Global,
@@ -135,11 +123,11 @@ fn put_deed(
     before: &Before,
     after: &After,
     out: &[u8],
-) -> Result<(), DrawFault>
+) -> Result<(), ReplayFault>
     requires fits { walk.old.marks.count < 2 ^ 64 - 1 }
     ensures puts { OnOk result ((s t : Rank) → IsBefore step.now s (Some before.now) → after.now ≡ after_of step.now t
         → IsPutAt symbols.now place step.now s t walk.old walk.new) }
-    ensures fault { IfErr result (λ fault. fault ≡ DrawFault.Memory) }
+    ensures fault { IfErr result (λ fault. fault ≡ ReplayFault.Memory) }
 {
     let next = walk.board.next();
     let deed = deed_of(
@@ -166,13 +154,13 @@ fn put_behind(
     step: &Step,
     state: &ClusterState,
     before: &Option<Before>,
-) -> Result<(), DrawFault>
+) -> Result<(), ReplayFault>
     requires fits { walk.old.marks.count < 2 ^ 64 - 1 }
     ensures puts { OnOk result ((s t : RankStateOf) → IsBefore step.now (rank_of s) before.now
         → slice_get state.now.ranks.items step.now.rank ≡ Some t → step.now.hart < length s.harts.items
         → step.now.hart < length t.harts.items
         → IsPutAt symbols.now place step.now (rank_of s) (rank_of t) walk.old walk.new) }
-    ensures fault { IfErr result (λ fault. fault ≡ DrawFault.Memory) }
+    ensures fault { IfErr result (λ fault. fault ≡ ReplayFault.Memory) }
 {
     let Some(before) = before else {
         return Ok(());
@@ -192,14 +180,14 @@ fn put_step(
     symbols: &[Symbol],
     place: u64,
     step: &Step,
-) -> Result<(), DrawFault>
+) -> Result<(), ReplayFault>
     requires fits { walk.old.marks.count < 2 ^ 64 - 1 }
     ensures leads { OnOk result (Leads state.old step.now state.new) }
     ensures puts { OnOk result (Puts symbols.now state.old place step.now state.new walk.old walk.new) }
     ensures fault { IfErr result (StepBreaks state.old place step.now) }
 {
     let before = look_at(state, step)?;
-    advance(state, place, step)?;
+    state.step_at(place, step)?;
     put_behind(alloc, walk, symbols, place, step, state, &before)
 }
 
@@ -213,12 +201,12 @@ pub(crate) fn put_steps(
     view: View,
     from: usize,
     to: usize,
-) -> Result<(), DrawFault>
+) -> Result<(), ReplayFault>
     requires put { ArePut image.now steps.now (scope_in image.now view) from state.old walk.old }
     requires order { from ≤ to }
     requires within { to ≤ length steps.now }
     ensures put { OnOk result (ArePut image.now steps.now (scope_in image.now view) to state.new walk.new) }
-    ensures fault { IfErr result (StepsBreak image.now steps.now) }
+    ensures fault { IfErr result (ReplayFaultHolds image.now steps.now (length steps.now)) }
 {
     let _shown = view;
     let symbols = image.parts().symbols.as_slice();

@@ -2,7 +2,7 @@
 
 ghost use Rattle.std.specs.Prelude.{◌≡◌};
 ghost use Rattle.rvmc_report.specs.Faults.{fault_of_image, fault_of_source};
-ghost use Rattle.rvmc_report.specs.OtherFaults.{fault_of_record, fault_of_replay, fault_of_run};
+ghost use Rattle.rvmc_report.specs.OtherFaults.{fault_of_record, fault_of_replay, fault_of_run, place_of};
 ghost use Rattle.rvmc_report.specs.Faults.{fault_of_debug, fault_status};
 ghost use Rattle.rvmc_report.specs.declared.faults.Fault.TheVariants as faults;
 
@@ -27,30 +27,37 @@ pub enum PlaceFault {
     NotARun(u64),
 }
 
+impl PlaceFault {
+    /// What is told of a replay that was refused; nothing where it was for memory.
+    pub fn of(fault: ReplayFault) -> Option<PlaceFault>
+        ensures { result ≡ place_of fault }
+    {
+        match fault {
+            ReplayFault::PastEnd(steps) => Some(PlaceFault::PastEnd(steps)),
+            ReplayFault::Step(number) => Some(PlaceFault::NotARun(number)),
+            ReplayFault::Memory => None,
+        }
+    }
+}
+
 /// Why a record isn't listed.
 #[derive(Clone, Copy, Debug, Drop, Error)]
 pub enum ListRefusal {
     /// The image has no such rank.
     #[error("NoRank")]
     NoRank,
-    /// A place is behind the end. Carries the number of steps.
-    #[error("PastEnd {0}")]
-    PastEnd(u64),
-    /// The machine has no such step where the steps before it lead. Carries its number, from 0.
-    #[error("NotARun {0}")]
-    NotARun(u64),
+    /// There is no place where the list begins or ends.
+    #[error("{0}")]
+    Place(PlaceFault),
 }
 
-/// Why a record isn't drawn, as a picture or on a page.
+/// Why a record isn't drawn.
 #[derive(Clone, Copy, Debug, Drop, Error)]
 pub enum DrawRefusal {
-    /// A place is behind the end. Carries the number of steps.
-    #[error("PastEnd {0}")]
-    PastEnd(u64),
-    /// The machine has no such step where the steps before it lead. Carries its number, from 0.
-    #[error("NotARun {0}")]
-    NotARun(u64),
-    /// More steps have a mark than a picture may have, or there are more than a page may have. Carries how many.
+    /// There is no place where the picture begins or ends, or the record does.
+    #[error("{0}")]
+    Place(PlaceFault),
+    /// More steps have a mark than a picture may have. Carries how many.
     #[error("TooMany {0}")]
     TooMany(u64),
 }
@@ -111,7 +118,7 @@ pub enum Fault {
     Draw(DrawRefusal),
     /// Why there is no page of a record.
     #[error("page: {0}")]
-    Page(DrawRefusal),
+    Page(PlaceFault),
     /// Why a search tells nothing.
     #[error("explore: {0}")]
     Explore(ExploreRefusal),
@@ -215,10 +222,9 @@ impl From<ReplayFault> for Fault {
     ghost from_gives = { λ fault e. e ≡ fault_of_replay fault };
 
     fn from(fault: ReplayFault) -> Fault {
-        match fault {
-            ReplayFault::PastEnd(steps) => Fault::Why(PlaceFault::PastEnd(steps)),
-            ReplayFault::Step(number) => Fault::Why(PlaceFault::NotARun(number)),
-            ReplayFault::Memory => Fault::Memory,
+        match PlaceFault::of(fault) {
+            Some(place) => Fault::Why(place),
+            None => Fault::Memory,
         }
     }
 }

@@ -2,16 +2,17 @@
 use Rattle.std.proofs.Common.{◌≡◌, ℕ, List, inl, inr, refl, subst}
 use Rattle.std.specs.Prelude.{◌-◌, Ok, Option, length, take}
 use Rattle.cl_machine.specs.declared.steps.Step.{Step}
+use Rattle.cl_replay.specs.InnerReplaying.{ReplayFaultHolds}
+use Rattle.cl_replay.specs.declared.replaying.ReplayFault.{ReplayFault}
+use Rattle.cl_replay.specs.declared.replaying.ReplayFault.TheVariants as replay
 use Rattle.cl_text.specs.Reading.{reading_record}
 use Rattle.rv_image_types.specs.declared.images.ImageParts.{ImageParts}
 use Rattle.rvmc_line.specs.declared.line.RecordCommand.TheVariants as command
 use Rattle.rvmc_line.specs.declared.texts.SourceSize.{SourceSize}
-use Rattle.rvmc_page.specs.Records.{IsPage, PageFaultHolds}
+use Rattle.rvmc_page.specs.Records.{IsPage}
 use Rattle.rvmc_page.specs.Texts.{Source}
 use Rattle.rvmc_page.specs.Written.{IsPageWritten, LeavesPage}
-use Rattle.rvmc_page.specs.declared.records.PageFault.{PageFault}
-use Rattle.rvmc_page.specs.declared.records.PageFault.TheVariants as page
-use Rattle.rvmc_page.specs.Below.{view_of}
+use Rattle.rvmc_page.specs.Below.{furthest, view_of}
 use Rattle.rvmc_answers.specs.Below.{Fault}
 use Rattle.rvmc_views.specs.Pieces.{IsMade, LeavesPieces}
 use Rattle.rvmc_views.specs.Faults.{IsReadFault, IsStepsFault, IsUnread, fault_of_page}
@@ -20,11 +21,11 @@ use Rattle.rvmc_answers.specs.declared.answers.End.TheVariants.{Status}
 use Rattle.rvmc_views.proofs.Readings.{of_part, says, unread_part}
 
 pub page_fault : (image : ImageParts) (steps : List Step) (from : ℕ) (to : Option ℕ) (texts : List SourceSize)
-    (fault : PageFault) → PageFaultHolds image steps (view_of from to steps) fault
-    → IsStepsFault (command.Page from to texts) image steps (fault_of_page fault)
-page_fault image steps from to texts (page.PastEnd n) holds = holds
-page_fault image steps from to texts (page.NotARun n) holds = holds
-page_fault image steps from to texts page.Memory holds = tt
+    (why : ReplayFault) → ReplayFaultHolds image steps (furthest (view_of from to steps) steps) why
+    → IsStepsFault (command.Page from to texts) image steps (fault_of_page why)
+page_fault image steps from to texts (replay.PastEnd n) holds = holds
+page_fault image steps from to texts (replay.Step n) holds = holds
+page_fault image steps from to texts replay.Memory holds = tt
 
 -- a fault of the part of the bytes that is the record is one of what was read; and so is one of its image and its steps
 module _ (from : ℕ) (to : Option ℕ) (texts : List SourceSize) (bytes part : List ℕ)
@@ -53,13 +54,13 @@ module _ (from : ℕ) (to : Option ℕ) (texts : List SourceSize) (bytes : List 
   paged old new is = record { text = is.text; says = says_page is.text is.page; there = is.there }
 
   -- and so is what is left by a fault
-  pub left : (fault : PageFault) (old new : Option (List ℕ))
+  pub left : (fault : ReplayFault) (old new : Option (List ℕ))
       → LeavesPage image steps (view_of from to steps) sources fault old new
       → LeavesPieces (command.Page from to texts) bytes (fault_of_page fault) old new
-  left (page.PastEnd n) old new keeps = keeps
-  left (page.NotARun n) old new keeps = keeps
-  left page.Memory old new (inl keeps) = inl keeps
-  left page.Memory old new (inr begun) = inr (record {
+  left (replay.PastEnd n) old new keeps = keeps
+  left (replay.Step n) old new keeps = keeps
+  left replay.Memory old new (inl keeps) = inl keeps
+  left replay.Memory old new (inr begun) = inr (record {
     text = begun.text;
     says = says_page begun.text begun.page;
     front = begun.front;

@@ -7,9 +7,10 @@ use Rattle.rv_image_types.specs.declared.images.ImageParts.{ImageParts}
 use Rattle.rvmc_line.specs.declared.line.RecordCommand.{RecordCommand}
 use Rattle.rvmc_list.specs.declared.walk.ListFault.{ListFault}
 use Rattle.rvmc_list.specs.declared.walk.ListFault.TheVariants as list
-use Rattle.rvmc_page.specs.declared.records.PageFault.{PageFault}
-use Rattle.rvmc_page.specs.declared.records.PageFault.TheVariants as page
-use Rattle.rvmc_answers.specs.Below.{Fault}
+use Rattle.rvmc_page.specs.Below.{DrawFault}
+use Rattle.rvmc_page.specs.Below.draw
+use Rattle.cl_replay.specs.declared.replaying.ReplayFault.{ReplayFault}
+use Rattle.rvmc_answers.specs.Below.{Fault, fault_by, place_of}
 use Rattle.rvmc_answers.specs.Below.drawn
 use Rattle.rvmc_answers.specs.Below.faults
 use Rattle.rvmc_answers.specs.Below.listed as refusal
@@ -36,15 +37,16 @@ IsStepsFault command image steps fault = RefusesSteps command image steps fault
 -- what is told of a fault of `list`
 abbrev pub fault_of_list : ListFault → Fault
 fault_of_list list.NoRank = faults.List refusal.NoRank
-fault_of_list (list.PastEnd n) = faults.List (refusal.PastEnd n)
-fault_of_list (list.NotARun n) = faults.List (refusal.NotARun n)
-fault_of_list list.Memory = faults.Memory
+fault_of_list (list.Replay why) = fault_by (λ fault. faults.List (refusal.Place fault)) (place_of why)
+
+-- of `draw`
+abbrev pub fault_of_draw : DrawFault → Fault
+fault_of_draw (draw.Replay why) = fault_by (λ fault. faults.Draw (drawn.Place fault)) (place_of why)
+fault_of_draw (draw.TooMany count) = faults.Draw (drawn.TooMany count)
 
 -- and of `page`
-abbrev pub fault_of_page : PageFault → Fault
-fault_of_page (page.PastEnd n) = faults.Page (drawn.PastEnd n)
-fault_of_page (page.NotARun n) = faults.Page (drawn.NotARun n)
-fault_of_page page.Memory = faults.Memory
+abbrev pub fault_of_page : ReplayFault → Fault
+fault_of_page why = fault_by faults.Page (place_of why)
 
 -- of what was read as a record: its first fault, or else one of its image and its steps, unless memory was refused
 abbrev pub IsReadFault : RecordCommand → Result (ImageParts × List Step) RecordFault → Fault → Type 0

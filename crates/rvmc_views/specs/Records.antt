@@ -21,17 +21,15 @@ use Rattle.rvmc_list.specs.List.{IsList, ListFaultHolds}
 use Rattle.rvmc_list.specs.Stats.{IsStats}
 use Rattle.rvmc_list.specs.declared.folding.Wanted.{Wanted}
 use Rattle.rvmc_list.specs.declared.walk.ListFault.TheVariants as list
-use Rattle.rvmc_page.specs.Records.{IsPage, PageFaultHolds}
+use Rattle.rvmc_page.specs.Records.{IsPage}
 use Rattle.rvmc_page.specs.Texts.{Source}
-use Rattle.rvmc_page.specs.declared.records.PageFault.TheVariants as page
-use Rattle.rvmc_page.specs.Below.{DrawFaultHolds, IsDrawing, view_of}
+use Rattle.rvmc_page.specs.Below.{DrawFaultHolds, IsDrawing, furthest, view_of}
 use Rattle.rvmc_page.specs.Below.draw
 use Rattle.rvmc_answers.specs.Below.{Fault, IsReportOf, IsTextOfWords, fault_of_debug, fault_status, verdict_status}
-use Rattle.rvmc_answers.specs.Below.{verdict_text}
+use Rattle.rvmc_answers.specs.Below.{replay_of, verdict_text}
 use Rattle.rvmc_answers.specs.Below.drawn
 use Rattle.rvmc_answers.specs.Below.faults
 use Rattle.rvmc_answers.specs.Below.listed as refusal
-use Rattle.rvmc_answers.specs.Below.place
 use Rattle.rvmc_svg.specs.Safe.{IsAllowed}
 use Rattle.rvmc_svg.specs.Shown.{IsShown}
 use Rattle.rvmc_answers.specs.Ends.{IsFaulty, end_status}
@@ -96,8 +94,8 @@ counted_of from to rank = wanted_of from to rank false
 -- a rank or a place that isn't there, and steps that are no run up to the list's end, are faults, of tables as of lines
 abbrev pub IsNoList : ImageParts → List Step → Wanted → Fault → Type 0
 IsNoList image steps wanted (faults.List refusal.NoRank) = ListFaultHolds image steps wanted list.NoRank
-IsNoList image steps wanted (faults.List (refusal.PastEnd n)) = ListFaultHolds image steps wanted (list.PastEnd n)
-IsNoList image steps wanted (faults.List (refusal.NotARun n)) = ListFaultHolds image steps wanted (list.NotARun n)
+IsNoList image steps wanted (faults.List (refusal.Place why)) =
+    ListFaultHolds image steps wanted (list.Replay (replay_of why))
 IsNoList image steps wanted other = ⊥
 
 -- ---- `draw`
@@ -112,10 +110,8 @@ pub record IsPicture (image : ImageParts) (steps : List Step) (from : ℕ) (to :
 
 -- a place that isn't there, a step that is none of the machine's, and more marks than a picture may have are faults
 abbrev pub IsNoPicture : ImageParts → List Step → ℕ → Option ℕ → Fault → Type 0
-IsNoPicture image steps from to (faults.Draw (drawn.PastEnd n)) =
-    DrawFaultHolds image steps (view_of from to steps) (draw.PastEnd n)
-IsNoPicture image steps from to (faults.Draw (drawn.NotARun n)) =
-    DrawFaultHolds image steps (view_of from to steps) (draw.NotARun n)
+IsNoPicture image steps from to (faults.Draw (drawn.Place why)) =
+    DrawFaultHolds image steps (view_of from to steps) (draw.Replay (replay_of why))
 IsNoPicture image steps from to (faults.Draw (drawn.TooMany n)) =
     DrawFaultHolds image steps (view_of from to steps) (draw.TooMany n)
 IsNoPicture image steps from to other = ⊥
@@ -124,10 +120,8 @@ IsNoPicture image steps from to other = ⊥
 
 -- a place that isn't there, and a step that is none of the machine's, are faults
 abbrev pub IsNoPage : ImageParts → List Step → ℕ → Option ℕ → Fault → Type 0
-IsNoPage image steps from to (faults.Page (drawn.PastEnd n)) =
-    PageFaultHolds image steps (view_of from to steps) (page.PastEnd n)
-IsNoPage image steps from to (faults.Page (drawn.NotARun n)) =
-    PageFaultHolds image steps (view_of from to steps) (page.NotARun n)
+IsNoPage image steps from to (faults.Page why) =
+    ReplayFaultHolds image steps (furthest (view_of from to steps) steps) (replay_of why)
 IsNoPage image steps from to other = ⊥
 
 -- ---- `debug`
@@ -160,8 +154,7 @@ place_asked None steps = length steps
 -- a place that isn't there is a fault: there are fewer steps, or one before the place is the first that isn't the
 -- machine's
 abbrev pub IsNoPlace : ImageParts → List Step → ℕ → Fault → Type 0
-IsNoPlace image steps n (faults.Why (place.PastEnd count)) = ReplayFaultHolds image steps n (replay.PastEnd count)
-IsNoPlace image steps n (faults.Why (place.NotARun k)) = ReplayFaultHolds image steps n (replay.Step k)
+IsNoPlace image steps n (faults.Why why) = ReplayFaultHolds image steps n (replay_of why)
 IsNoPlace image steps n other = ⊥
 
 -- ---- all of them

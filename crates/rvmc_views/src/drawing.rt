@@ -3,21 +3,35 @@
 ghost use Rattle.std.specs.Prelude.{◌≡◌, IfErr, IfOk};
 ghost use Rattle.rvmc_line.specs.declared.line.RecordCommand.TheVariants as command;
 ghost use Rattle.rvmc_page.specs.Below.{IsDrawing, view_of};
-ghost use Rattle.rvmc_views.specs.Faults.{IsStepsFault};
+ghost use Rattle.rvmc_views.specs.Faults.{IsStepsFault, fault_of_draw};
 ghost use Rattle.rvmc_answers.specs.Outputs.{output_bytes};
 ghost use Rattle.rvmc_views.specs.Records.{IsPicture};
 ghost use Rattle.rvmc_answers.specs.declared.answers.End.TheVariants.{Status};
 
 use cl_machine::Step;
 use rv_image_types::Image;
-use rvmc_answers::faults::{DrawRefusal, Fault};
+use rvmc_answers::faults::{DrawRefusal, Fault, PlaceFault};
 use rvmc_answers::{Answer, End, Output};
 use rvmc_draw::Drawing;
 use rvmc_page::{DrawFault, drawing};
 use rvmc_svg::svg;
 use std::alloc::Global;
 
+/// What is told of a fault of a picture.
+fn refused(fault: DrawFault) -> Fault
+    ensures { result ≡ fault_of_draw fault }
+{
+    match fault {
+        DrawFault::Replay(fault) => match PlaceFault::of(fault) {
+            Some(place) => Fault::Draw(DrawRefusal::Place(place)),
+            None => Fault::Memory,
+        },
+        DrawFault::TooMany(count) => Fault::Draw(DrawRefusal::TooMany(count)),
+    }
+}
+
 /// What is drawn of the steps from one place to another, or why nothing is.
+#[tactic(auto, using(crate::proofs::Lists::draw_fault))]
 fn drawn(
     alloc: Global,
     image: &Image,
@@ -30,10 +44,7 @@ fn drawn(
 {
     match drawing(alloc, image, steps, from, to) {
         Ok(picture) => Ok(picture),
-        Err(DrawFault::PastEnd(count)) => Err(Fault::Draw(DrawRefusal::PastEnd(count))),
-        Err(DrawFault::NotARun(number)) => Err(Fault::Draw(DrawRefusal::NotARun(number))),
-        Err(DrawFault::TooMany(count)) => Err(Fault::Draw(DrawRefusal::TooMany(count))),
-        Err(DrawFault::Memory) => Err(Fault::Memory),
+        Err(fault) => Err(refused(fault)),
     }
 }
 

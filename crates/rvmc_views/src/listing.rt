@@ -14,7 +14,7 @@ use crate::records::read;
 use cl_machine::Step;
 use rv_image_types::Image;
 use rvmc_answers::Answer;
-use rvmc_answers::faults::{Fault, ListRefusal};
+use rvmc_answers::faults::{Fault, ListRefusal, PlaceFault};
 use rvmc_list::{ListFault, Wanted, list, stats};
 use std::alloc::Global;
 use std::io::Write;
@@ -25,9 +25,10 @@ fn refused(fault: ListFault) -> Fault
 {
     match fault {
         ListFault::NoRank => Fault::List(ListRefusal::NoRank),
-        ListFault::PastEnd(count) => Fault::List(ListRefusal::PastEnd(count)),
-        ListFault::NotARun(number) => Fault::List(ListRefusal::NotARun(number)),
-        ListFault::Memory => Fault::Memory,
+        ListFault::Replay(fault) => match PlaceFault::of(fault) {
+            Some(place) => Fault::List(ListRefusal::Place(place)),
+            None => Fault::Memory,
+        },
     }
 }
 

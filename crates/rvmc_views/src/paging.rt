@@ -9,9 +9,10 @@ ghost use Rattle.rvmc_views.specs.Faults.{IsReadFault, fault_of_page};
 ghost use Rattle.rvmc_views.specs.Records.{record_part, size_of_all, sources_in};
 
 use crate::records::read;
-use rvmc_answers::faults::{DrawRefusal, Fault};
+use cl_replay::ReplayFault;
+use rvmc_answers::faults::{Fault, PlaceFault};
 use rvmc_line::{SourceSize, SourceSizes};
-use rvmc_page::{PageFault, SourceText, page};
+use rvmc_page::{SourceText, page};
 use std::alloc::{AllocError, Global};
 use std::io::Write;
 
@@ -65,13 +66,12 @@ fn sources<'a>(
 }
 
 /// What is told of a fault of a page.
-fn refused(fault: PageFault) -> Fault
+fn refused(fault: ReplayFault) -> Fault
     ensures { result ≡ fault_of_page fault }
 {
-    match fault {
-        PageFault::PastEnd(count) => Fault::Page(DrawRefusal::PastEnd(count)),
-        PageFault::NotARun(number) => Fault::Page(DrawRefusal::NotARun(number)),
-        PageFault::Memory => Fault::Memory,
+    match PlaceFault::of(fault) {
+        Some(place) => Fault::Page(place),
+        None => Fault::Memory,
     }
 }
 

@@ -9,7 +9,7 @@ ghost use Rattle.rvmc_changes.specs.Walks.{seen_at_start};
 use cl_machine::Step;
 use rv_image_types::Image;
 use rvmc_changes::laws::walk_law;
-use rvmc_changes::{Change, RankStart, WalkFault, begin, go_on};
+use rvmc_changes::{Change, RankStart, ReplayFault, begin, go_on};
 use std::alloc::Global;
 
 /// What is seen where a walk starts, and what each of its steps changed.
@@ -26,7 +26,7 @@ pub fn changes_lead_to_what_is_shown(
     from: u64,
     to: u64,
     steps: &[Step],
-) -> Result<Walked, WalkFault>
+) -> Result<Walked, ReplayFault>
     requires order { from ≤ to }
     requires within { to ≤ length steps.now }
     ensures { IfOk result (λ walked. (debugging : Debugging) → debugging.image ≡ image.now → debugging.steps ≡ steps.now

@@ -61,7 +61,7 @@ returns-in_err-begun-clause-fault g c =
     let p = err_from_is_err_and c.from_residual-in_err-begun.result c.from_residual-in_err-begun.ensures.1 in
     rw (p.1, p.2)
     (step_wants_memory c.args.image.now c.args.steps.now c.args.wanted.now c.args.to n c.loop-n.state c.loop-n.phases
-    c.requires.checked c.loop-n.invariant.written.put.counted_to e there on c.in_err-begun.field-0.0
+    c.requires.checked c.requires.within c.loop-n.invariant.written.put.counted_to e there on c.in_err-begun.field-0.0
     c.in_err-begun.ensures.fault)
 
 pub returns-in_err-begun-clause-begun : goal.returns-in_err-begun-clause-begun

@@ -11,7 +11,7 @@ returns-clause-puts c =
     let at = slice_get_read c.deref.result.now (length c.deref.result.now) c.from.result own refl owned.3.0 owned.1 in
     let there : slice_get c.args.state.now.ranks.items c.args.step.now.rank ≡ Some own =
     sym (λ i. slice_get (c.deref.ensures.value i) ((c.from.ensures ∙ c.rank.ensures) i)) ∙ at in
-    plain_put c.args.symbols.now c.args.state.now c.advance-2.new.state c.args.place c.args.step.now own
+    plain_put c.args.symbols.now c.args.state.now c.step_at-2.new.self c.args.place c.args.step.now own
     c.in_ok-ahead.ahead c.in-Some-hart_after.after.now c.has_overflowed_after.result c.args.text.now.items
     c.put_front.new.text.items c.put_rest.new.text.items c.requires.plain there c.in_ok-ahead.ensures.text
     c.in_ok-ahead.ensures.ahead c.in-Some-hart_after.ensures c.has_overflowed_after.ensures c.in_ok-put_rest.ensures

@@ -1,8 +1,8 @@
 use Rattle.std.proofs.Common.{◌≡◌, ◌<◌, ◌≤◌, ◌-◌, length, refl, arith}
 use Rattle.std.proofs.lemmas.Option.{slice_get_read}
 use Rattle.std.proofs.lemmas.Result.{err_from_is_err_and}
+use Rattle.cl_replay.proofs.Runs.{breaks_before}
 use Rattle.rvmc_list.proofs.Counts.{counted_all, counted_more, counted_none}
-use Rattle.rvmc_list.proofs.Told.{step_fault}
 use Rattle.rvmc_list.proofs.tables.count_steps.Goals as goal
 
 pub loop-n-init : goal.loop-n-init
@@ -34,8 +34,8 @@ returns-in_err-count_step c =
     let below : n < length c.args.steps.now = omega arith in
     let there = slice_get_read c.args.steps.now (length c.args.steps.now) n e refl below c.index-steps-n.is in
     let on : n < c.args.to = omega arith in
-    let fault = step_fault c.args.image.now c.args.steps.now n c.args.to c.loop-n.state
-    c.loop-n.invariant.counted.reached e there on c.in_err-count_step.field-0.0 c.in_err-count_step.ensures.fault in
+    let fault = breaks_before c.args.image.now c.args.steps.now n c.loop-n.state c.loop-n.invariant.counted.reached e there
+    c.args.to on c.requires.within c.in_err-count_step.field-0.0 c.in_err-count_step.ensures.fault in
     let p = err_from_is_err_and c.from_residual.result c.from_residual.ensures.1 in
     rw (p.1, p.2) (record { counted = tt; fault = fault })
 

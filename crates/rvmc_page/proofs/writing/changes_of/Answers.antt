@@ -1,9 +1,9 @@
-use Rattle.rvmc_page.proofs.Written.{no_step_fault}
+use Rattle.std.proofs.lemmas.Result.{IfErr-weaker}
+use Rattle.rvmc_page.proofs.Written.{only_memory}
 use Rattle.rvmc_page.proofs.writing.changes_of.Goals as goal
 
--- the steps are a run
-pub unreachable-requires : goal.unreachable-requires
-unreachable-requires c =
-    let err = c.in-Err-NotARun in
-    no_step_fault c.args.image.now c.args.steps.now c.args.from c.args.to err.field-0-0 c.args.state.now c.requires.run
-    c.requires.reached c.requires.within err.field-0 err.field-0-is err.ensures.fault
+pub returns-clause-fault : goal.returns-clause-fault
+returns-clause-fault c =
+    IfErr-weaker c.go_on.result _ _
+    (only_memory c.args.image.now c.args.steps.now c.args.from c.args.to c.args.state.now c.requires.run
+    c.requires.reached c.requires.within) c.go_on.ensures.fault

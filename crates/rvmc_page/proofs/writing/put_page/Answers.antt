@@ -2,7 +2,7 @@ use Rattle.std.proofs.Common.{arith, refl, rules}
 use Rattle.std.specs.Prelude.{◌≡◌, IfErr, max}
 use Rattle.std.specs.Io.KnownBytes.{Appends}
 use Rattle.rvmc_page.specs.Written.{view_to}
-use Rattle.rvmc_page.specs.declared.records.PageFault.TheVariants as faults
+use Rattle.rvmc_changes.specs.Below.replay as faults
 use Rattle.rvmc_page.proofs.Written.{begun_so_far, left_for_memory, written_all}
 use Rattle.rvmc_page.proofs.writing.put_page.Goals as goal
 

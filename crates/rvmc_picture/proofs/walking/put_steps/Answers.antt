@@ -4,7 +4,8 @@ use Rattle.std.proofs.lemmas.Result.{err_from_is_err_and}
 use Rattle.rv_image_types.specs.declared.images.Symbol.{Symbol}
 use Rattle.rvmc_picture.specs.Pictures.{scope_in}
 use Rattle.rvmc_picture.specs.Walking.{Puts}
-use Rattle.rvmc_picture.proofs.Told.{put_more, step_breaks}
+use Rattle.cl_replay.proofs.Runs.{breaks_before}
+use Rattle.rvmc_picture.proofs.Told.{put_more}
 use Rattle.rvmc_picture.proofs.walking.put_steps.Goals as goal
 
 pub loop-n-preserved : goal.loop-n-preserved
@@ -28,7 +29,7 @@ returns-in_err-put_step-clause-fault c =
     let e = c.index-steps-n.result in
     let below : n < length c.args.steps.now = omega arith in
     let there = slice_get_read c.args.steps.now (length c.args.steps.now) n e refl below c.index-steps-n.is in
-    let fault = step_breaks c.args.image.now c.args.steps.now n c.loop-n.state c.loop-n.invariant.put.reached e there
-    c.in_err-put_step.field-0.0 c.in_err-put_step.ensures.fault in
+    let fault = breaks_before c.args.image.now c.args.steps.now n c.loop-n.state c.loop-n.invariant.put.reached e there
+    (length c.args.steps.now) below (omega arith) c.in_err-put_step.field-0.0 c.in_err-put_step.ensures.fault in
     let p = err_from_is_err_and c.from_residual.result c.from_residual.ensures.1 in
     rw (p.1, p.2) fault
