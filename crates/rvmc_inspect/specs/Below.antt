@@ -4,7 +4,8 @@ pub use Rattle.rvmc_report.specs.Below.{ClusterState, IsReached, Leads, ReplayFa
 pub use Rattle.rvmc_report.specs.Faults.{fault_of_debug, fault_of_image, fault_of_kind, fault_of_source, fault_status}
 pub use Rattle.rvmc_report.specs.Input.{TakesAtMost}
 pub use Rattle.rvmc_report.specs.Listing.{listing}
-pub use Rattle.rvmc_report.specs.OtherFaults.{fault_by, fault_of_record, fault_of_run, place_of, replay_of}
+pub use Rattle.rvmc_report.specs.OtherFaults.{fault_by, fault_of_record, fault_of_run, place_of}
+pub use Rattle.rvmc_report.specs.Places.{replay_of}
 pub use Rattle.rvmc_report.specs.Recorded.{IsReportOf}
 pub use Rattle.rvmc_report.specs.Report.{newline, rank_ends, report, status_of}
 pub use Rattle.rvmc_report.specs.Stuck.{told_report}

@@ -21,7 +21,7 @@ use Rattle.rvmc_sights.specs.Lines.{Sight, box_in, sight_of}
 use Rattle.rvmc_sights.specs.Sights.{IsSightAt}
 use Rattle.rvmc_sights.proofs.Sights.{IsSeen, each_more, seen_at}
 use Rattle.rvmc_list.specs.Folding.{is_wanted, scene_line, lines_of, scenes_text}
-use Rattle.rvmc_list.specs.List.{AreScenes, AreSights, IsSceneAt, ListFaultHolds, furthest, names_no_rank}
+use Rattle.rvmc_list.specs.List.{AreScenes, AreSights, IsSceneAt, ListFaultHolds, replayed_to, names_no_rank}
 use Rattle.rvmc_list.specs.Meeting.{AreOfBoxes, IsCountedTo, IsMet, IsMetBy, behind_box}
 use Rattle.rvmc_list.specs.Phases.{Scene}
 use Rattle.rvmc_list.specs.Pieces.{behind, closing, opened_by, piece_of}
@@ -150,8 +150,8 @@ told_all image steps wanted n to state phases begun old text after put same clos
 }
 
 -- why the steps before a place weren't all done is why there is no list
-pub list_fault : (image : ImageParts) (steps : List Step) (wanted : Wanted) (to : ℕ) → to ≤ furthest wanted steps
-    → names_no_rank wanted.rank image.ranks ≡ false → furthest wanted steps ≤ length steps → (why : ReplayFault)
+pub list_fault : (image : ImageParts) (steps : List Step) (wanted : Wanted) (to : ℕ) → to ≤ replayed_to wanted steps
+    → names_no_rank wanted.rank image.ranks ≡ false → replayed_to wanted steps ≤ length steps → (why : ReplayFault)
     → ReplayFaultHolds image steps to why → ListFaultHolds image steps wanted (fault.Replay why)
 list_fault image steps wanted to most rank within why h =
-    (rank, holds_further image steps to (furthest wanted steps) most within why h)
+    (rank, holds_further image steps to (replayed_to wanted steps) most within why h)

@@ -48,11 +48,11 @@ names_no_rank None ranks = false
 names_no_rank (Some rank) ranks = nat_le ranks rank
 
 -- the steps are replayed up to where the list begins and ends
-abbrev pub furthest : Wanted → List Step → ℕ
-furthest wanted steps = max wanted.from (last_place wanted steps)
+abbrev pub replayed_to : Wanted → List Step → ℕ
+replayed_to wanted steps = max wanted.from (last_place wanted steps)
 
 -- why there is no text: no such rank, or why the steps weren't replayed so far
 abbrev pub ListFaultHolds : ImageParts → List Step → Wanted → ListFault → Type 0
 ListFaultHolds image steps wanted fault.NoRank = names_no_rank wanted.rank image.ranks ≡ true
 ListFaultHolds image steps wanted (fault.Replay why) =
-    (names_no_rank wanted.rank image.ranks ≡ false) × ReplayFaultHolds image steps (furthest wanted steps) why
+    (names_no_rank wanted.rank image.ranks ≡ false) × ReplayFaultHolds image steps (replayed_to wanted steps) why

@@ -14,7 +14,7 @@ use Rattle.rvmc_sights.specs.declared.lines.Seen.{Seen}
 use Rattle.rvmc_list.specs.Folding.{Line, is_wanted, scene_line, lines_of, scenes_text}
 use Rattle.rvmc_list.specs.Phases.{Scene, scene_text}
 use Rattle.rvmc_list.specs.Meeting.{IsCountedTo}
-use Rattle.rvmc_list.specs.List.{AreScenes, furthest, last_place, names_no_rank}
+use Rattle.rvmc_list.specs.List.{AreScenes, replayed_to, last_place, names_no_rank}
 use Rattle.rvmc_list.specs.Pieces.{behind, closing, opened_by, piece_of}
 use Rattle.rvmc_list.specs.declared.folding.Wanted.{Wanted}
 use Rattle.rvmc_list.specs.declared.phases.Phases.{Phases}
@@ -76,7 +76,7 @@ pub record IsStart (image : ImageParts) (steps : List Step) (wanted : Wanted) (p
   pub reached : IsReached image steps place state
   pub to_is : to ≡ last_place wanted steps
   pub rank : names_no_rank wanted.rank image.ranks ≡ false
-  pub within : furthest wanted steps ≤ length steps
+  pub within : replayed_to wanted steps ≤ length steps
 
 -- the steps from one place to another were put, and the state is the cluster there
 pub record ArePut (image : ImageParts) (steps : List Step) (wanted : Wanted) (from n : ℕ) (state : ClusterState)

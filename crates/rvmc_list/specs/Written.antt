@@ -6,7 +6,7 @@ use Rattle.cl_machine.specs.declared.steps.Step.{Step}
 use Rattle.cl_replay.specs.Replays.{IsRunUpTo}
 use Rattle.cl_replay.specs.declared.replaying.ReplayFault.TheVariants as replay
 use Rattle.rv_image_types.specs.declared.images.ImageParts.{ImageParts}
-use Rattle.rvmc_list.specs.List.{IsList, furthest, last_place, names_no_rank}
+use Rattle.rvmc_list.specs.List.{IsList, replayed_to, last_place, names_no_rank}
 use Rattle.rvmc_list.specs.declared.folding.Wanted.{Wanted}
 use Rattle.rvmc_list.specs.declared.walk.ListFault.{ListFault}
 use Rattle.rvmc_list.specs.declared.walk.ListFault.TheVariants as fault
@@ -37,5 +37,5 @@ Leaves image steps wanted other old new = Keeps old new
 pub record IsChecked (image : ImageParts) (steps : List Step) (wanted : Wanted) (to : ℕ) : Type 0 where
   pub to_is : to ≡ last_place wanted steps
   pub rank : names_no_rank wanted.rank image.ranks ≡ false
-  pub within : furthest wanted steps ≤ length steps
+  pub within : replayed_to wanted steps ≤ length steps
   pub run : IsRunUpTo image steps (max wanted.from to)

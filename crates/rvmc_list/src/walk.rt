@@ -5,7 +5,7 @@ ghost use Rattle.std.specs.Option.{option_copied};
 ghost use Rattle.cl_replay.specs.InnerReplaying.{StepBreaks};
 ghost use Rattle.cl_replay.specs.Steps.{Leads};
 ghost use Rattle.cl_replay.specs.declared.replaying.ReplayFault.TheVariants as replay;
-ghost use Rattle.rvmc_list.specs.List.{ListFaultHolds, furthest, last_place};
+ghost use Rattle.rvmc_list.specs.List.{ListFaultHolds, replayed_to, last_place};
 ghost use Rattle.rvmc_list.specs.List.{names_no_rank as names_no_rank_of};
 ghost use Rattle.rvmc_list.specs.Putting.{IsDone, IsHartAfter, IsLook, IsOverflowAfter, IsStart};
 ghost use Rattle.rvmc_list.specs.Written.{IsChecked};
@@ -130,7 +130,7 @@ fn names_no_rank(rank: Option<u64>, ranks: u8) -> bool
 fn end_of(image: &Image, steps: &[Step], wanted: &Wanted) -> Result<u64, ListFault>
     ensures end { IfOk result (λ to. to ≡ last_place wanted.now steps.now) }
     ensures rank { OnOk result (names_no_rank_of wanted.now.rank image.now.ranks ≡ false) }
-    ensures within { OnOk result (furthest wanted.now steps.now ≤ length steps.now) }
+    ensures within { OnOk result (replayed_to wanted.now steps.now ≤ length steps.now) }
     ensures fault { IfErr result (ListFaultHolds image.now steps.now wanted.now) }
 {
     if names_no_rank(wanted.rank, image.parts().ranks) {

@@ -5,6 +5,7 @@ pub mod Listing
 pub mod Laws
 pub mod Faults
 pub mod OtherFaults
+pub mod Places
 pub mod Input
 pub mod Verdicts
 pub mod Recorded

@@ -27,11 +27,6 @@ place_of (replay.PastEnd steps) = Some (place.PastEnd steps)
 place_of (replay.Step number) = Some (place.NotARun number)
 place_of replay.Memory = None
 
--- and of what it is told
-abbrev pub replay_of : PlaceFault → ReplayFault
-replay_of (place.PastEnd steps) = replay.PastEnd steps
-replay_of (place.NotARun number) = replay.Step number
-
 -- the fault of a command that asked for the replay
 abbrev pub fault_by : (PlaceFault → Fault) → Option PlaceFault → Fault
 fault_by tells None = Memory
