@@ -2,7 +2,7 @@ pub mod Walks
 pub mod Alike
 pub mod OtherCounts
 pub mod Pieces
-pub mod Few
+pub mod TooMany
 pub mod Long
 pub mod RegisterNumbers
 pub mod Filling

@@ -1,5 +1,5 @@
 -- What stands between commas, operand by operand.
-use Rattle.std.proofs.Common.{◌≡◌, ◌||◌, ◌==◌, cond, ℕ, ℤ, ◌<◌, Bool, true, false, List, [], ◌∷◌, length, Option, Some, None, is_some, refl, sym, ap, ◌∙◌, arith}
+use Rattle.std.proofs.Common.{◌≡◌, ◌==◌, cond, ℕ, ℤ, ◌<◌, Bool, true, false, List, [], ◌∷◌, ◌++◌, length, Option, Some, None, is_some, refl, sym, ap, ◌∙◌, append_assoc, arith}
 use Rattle.std.proofs.lemmas.Bool.{ne_eqb}
 use Rattle.std.proofs.lemmas.List.Splits.{length-slice_split}
 use Rattle.std.specs.List.{onto_first, slice_split}
@@ -288,19 +288,20 @@ pieces_first ts =
     let some : 0 < length (slice_split is_comma ts) = omega (arith, length-slice_split is_comma ts) in
     all_from (slice_split is_comma ts) some ∙ in_all ts
 
-pub are_pieces : (ts : List Lexeme) → is_some (arguments_of ts) ≡ ((length ts == 0) || is_some (pieces_of ts))
-are_pieces [] = refl
-are_pieces (t ∷ ts) =
+-- no tokens are no operands, and others are what stands between their commas
+pub no_token : (ts : List Lexeme) → (length ts == 0) ≡ true → arguments_of ts ≡ Some []
+no_token [] h = refl
+no_token (t ∷ ts) h =
     let e : (length (t ∷ ts) == 0) ≡ false = ne_eqb (length (t ∷ ts)) 0 (λ z. omega arith) in
-    rw e refl
+    absurd cc
+
+pub some_token : (ts : List Lexeme) → (length ts == 0) ≡ false → arguments_of ts ≡ pieces_of ts
+some_token [] h = absurd cc
+some_token (t ∷ ts) h = refl
 
 pub those_some : (o : Option (List Argument)) → is_some o ≡ true → o ≡ Some (those o)
 those_some None h = absurd cc
 those_some (Some xs) h = refl
-
-pub those_none : (o : Option (List Argument)) → is_some o ≡ false → o ≡ None
-those_none None h = refl
-those_none (Some xs) h = absurd cc
 
 -- ---- one operand after the other
 
@@ -337,16 +338,26 @@ next_some (t ∷ ts) left p h front last = go p.more refl (pieces_first (t ∷ t
         let end : left ≡ [] = last e in
         (rw (only, end) refl, rw end refl)
 
--- whether what is left is operands
-pub some_left : (ts left : List Lexeme) (p : Piece) → piece_view (Some p) left ≡ first_operand ts → p.more ≡ true → is_some (pieces_of ts) ≡ is_some (pieces_of left)
-some_left ts left p front e = rw (pieces_first ts, ← front, e) (go (pieces_of left))
+-- ---- operands that were taken, before those of what is left
+
+abbrev pub behind : List Argument → Option (List Argument) → Option (List Argument)
+behind done o = if_some o None (λ xs. Some (done ++ xs))
+
+pub behind_none : (o : Option (List Argument)) → o ≡ behind [] o
+behind_none None = refl
+behind_none (Some xs) = refl
+
+pub none_left : (ts left : List Lexeme) (done : List Argument) (whole : Option (List Argument)) → piece_view None left ≡ first_operand ts → whole ≡ behind done (pieces_of ts) → whole ≡ None
+none_left ts left done whole front all =
+    let none : pieces_of ts ≡ None = pieces_first ts ∙ ap come_to (sym front) in
+    rw (all, none) refl
+
+pub last_left : (ts left : List Lexeme) (p : Piece) (done : List Argument) (whole : Option (List Argument)) → piece_view (Some p) left ≡ first_operand ts → p.more ≡ false → whole ≡ behind done (pieces_of ts) → whole ≡ Some (done ++ argument_view p.operand ∷ [])
+last_left ts left p done whole front e all = rw (all, pieces_first ts, ← front, e) refl
+
+pub more_left : (ts left : List Lexeme) (p : Piece) (done : List Argument) (whole : Option (List Argument)) → piece_view (Some p) left ≡ first_operand ts → p.more ≡ true → whole ≡ behind done (pieces_of ts) → whole ≡ behind (done ++ argument_view p.operand ∷ []) (pieces_of left)
+more_left ts left p done whole front e all = rw (all, pieces_first ts, ← front, e) (go (pieces_of left))
   where
-    go : (o : Option (List Argument)) → is_some (if_some o None (λ xs. Some (argument_view p.operand ∷ xs))) ≡ is_some o
+    go : (o : Option (List Argument)) → behind done (if_some o None (λ xs. Some (argument_view p.operand ∷ xs))) ≡ behind (done ++ argument_view p.operand ∷ []) o
     go None = refl
-    go (Some xs) = refl
-
-pub none_left : (ts left : List Lexeme) → piece_view None left ≡ first_operand ts → is_some (pieces_of ts) ≡ false
-none_left ts left front = rw (pieces_first ts, ← front) refl
-
-pub last_left : (ts left : List Lexeme) (p : Piece) → piece_view (Some p) left ≡ first_operand ts → p.more ≡ false → is_some (pieces_of ts) ≡ true
-last_left ts left p front e = rw (pieces_first ts, ← front, e) refl
+    go (Some xs) = ap Some (sym (append_assoc done (argument_view p.operand ∷ []) xs))

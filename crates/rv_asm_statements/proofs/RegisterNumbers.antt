@@ -83,3 +83,14 @@ two_digits a b least most low high =
           let a_is : a ≡ 50 = omega arith in
           rw a_is (subst (λ k. register_named (120 ∷ 50 ∷ k ∷ []) ≡ Some (20 + (b - 48))) same (from_twenty (b - 48) (omega arith)))
     ]
+
+pub from_thirty : (b : ℕ) → 48 ≤ b → b ≤ 49 → register_named (120 ∷ 51 ∷ b ∷ []) ≡ Some (30 + (b - 48))
+from_thirty b low high =
+    elim (eq-or-lt_of_le low) [
+      | inl is ↦
+          let b_is : b ≡ 48 = omega arith in
+          rw b_is refl
+      | inr more ↦
+          let b_is : b ≡ 49 = omega arith in
+          rw b_is refl
+    ]

@@ -2,6 +2,7 @@ pub mod Walk
 pub mod Arguments
 pub mod CodeViews
 pub mod Pieces
+pub mod First
 pub mod Registers
 pub mod Shapes
 pub mod Rows

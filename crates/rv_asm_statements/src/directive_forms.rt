@@ -82,7 +82,7 @@ fn item<'a>(width: Width, operand: &Operand<'a>) -> Option<TargetRef<'a>>
 fn all_items(width: Width, operands: &Operands<'_>) -> bool
     ensures { result ≡ is_some (all_given (item_of width) operands.now) }
 {
-    let mut rest = operands.again();
+    let mut rest = operands.left();
     while let Some(operand) = rest.next() {
         if item(width, &operand).is_none() {
             return false;
@@ -95,7 +95,7 @@ fn all_items(width: Width, operands: &Operands<'_>) -> bool
 fn are_items(width: Width, operands: &Operands<'_>) -> bool
     ensures { result ≡ is_some (some_given (item_of width) operands.now) }
 {
-    operands.again().next().is_some() && all_items(width, operands)
+    operands.left().next().is_some() && all_items(width, operands)
 }
 
 /// The items of data among operands.
@@ -103,7 +103,7 @@ fn items(alloc: Global, width: Width, operands: &Operands<'_>) -> Result<Items, 
     ensures { IfOk result (λ found. found ≡ filter_map (item_of width) operands.now) }
 {
     let mut done = Vec::new(alloc);
-    let mut rest = operands.again();
+    let mut rest = operands.left();
     while let Some(operand) = rest.next() {
         if let Some(found) = item(width, &operand) {
             done.push(found.copied(alloc)?)?;
@@ -116,7 +116,7 @@ fn items(alloc: Global, width: Width, operands: &Operands<'_>) -> Result<Items, 
 fn all_numbers(operands: &Operands<'_>) -> bool
     ensures { result ≡ is_some (all_given number_of operands.now) }
 {
-    let mut rest = operands.again();
+    let mut rest = operands.left();
     while let Some(operand) = rest.next() {
         if number_in(&operand).is_none() {
             return false;
@@ -129,7 +129,7 @@ fn all_numbers(operands: &Operands<'_>) -> bool
 fn are_numbers(operands: &Operands<'_>) -> bool
     ensures { result ≡ is_some (some_given number_of operands.now) }
 {
-    operands.again().next().is_some() && all_numbers(operands)
+    operands.left().next().is_some() && all_numbers(operands)
 }
 
 /// The numbers among operands.
@@ -137,7 +137,7 @@ fn numbers(alloc: Global, operands: &Operands<'_>) -> Result<Integers, AllocErro
     ensures { IfOk result (λ found. found ≡ filter_map number_of operands.now) }
 {
     let mut done = Vec::new(alloc);
-    let mut rest = operands.again();
+    let mut rest = operands.left();
     while let Some(operand) = rest.next() {
         if let Some(found) = number_in(&operand) {
             done.push(Integer::from_number(found))?;
@@ -315,7 +315,7 @@ fn directive_with(
 }
 
 /// What a directive that takes two operands at most is with these operands, if it takes them.
-#[tactic(auto, using(crate::proofs::Few::no_directive_of_three))]
+#[tactic(auto, using(crate::proofs::TooMany::no_directive_past_three))]
 fn short_directive(
     alloc: Global,
     form: Form,
@@ -325,17 +325,10 @@ fn short_directive(
     ensures value { IfOk result (λ found. found ≡ directive_by form operands.now) }
     ensures memory { IsErr result → IsTrue (is_kept (directive_by form operands.now)) }
 {
-    let mut rest = operands.again();
-    let Some(first) = rest.next() else {
-        return directive_with(alloc, form, &[]);
-    };
-    let Some(second) = rest.next() else {
-        return directive_with(alloc, form, &[first]);
-    };
-    if rest.next().is_some() {
-        return Ok(None);
+    match operands.few() {
+        None => Ok(None),
+        Some(few) => directive_with(alloc, form, few),
     }
-    directive_with(alloc, form, &[first, second])
 }
 
 /// What a directive is with these operands, if it takes them.
@@ -358,7 +351,7 @@ fn directive_for(
 fn are_more(most: u32, operands: &Operands<'_>) -> bool
     ensures { result ≡ nat_lt most (length operands.now) }
 {
-    let mut rest = operands.again();
+    let mut rest = operands.left();
     for _ in 0..most {
         if rest.next().is_none() {
             return false;

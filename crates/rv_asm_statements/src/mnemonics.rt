@@ -143,25 +143,14 @@ fn rows_like(name: &[u8]) -> &'static [Row]
 }
 
 /// What the first row that takes the operands makes of them. No row takes more than three.
-#[tactic(auto, using(crate::proofs::Few::no_use_of_four))]
+#[tactic(auto, using(crate::proofs::TooMany::no_use_past_three))]
 fn use_of<'a>(name: &[u8], operands: &Operands<'a>) -> Option<UseRef<'a>>
     ensures { option_map read_use result ≡ use_meant name.now operands.now }
 {
-    let rows = rows_like(name);
-    let mut rest = operands.again();
-    let Some(first) = rest.next() else {
-        return use_in(rows, name, &[]);
-    };
-    let Some(second) = rest.next() else {
-        return use_in(rows, name, &[first]);
-    };
-    let Some(third) = rest.next() else {
-        return use_in(rows, name, &[first, second]);
-    };
-    if rest.next().is_some() {
-        return None;
+    match operands.few() {
+        None => None,
+        Some(few) => use_in(rows_like(name), name, few),
     }
-    use_in(rows, name, &[first, second, third])
 }
 
 /// Whether a row has the name.

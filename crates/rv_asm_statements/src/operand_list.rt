@@ -1,13 +1,15 @@
 //! What stands between the commas of a statement.
 
-ghost use Rattle.std.specs.Prelude.{◌≡◌, ◌<◌, ◌≤◌, [], IfSome, Some, false, is_some, length};
+ghost use Rattle.std.specs.Prelude.{◌≡◌, ◌<◌, ◌≤◌, [], IfSome, MatchOption, None, Some, false, is_some, length, true};
 ghost use Rattle.rv_asm_tokens.specs.Lexeme.{number_value};
 ghost use Rattle.rv_asm_statements.specs.Arguments.{arguments_of};
 ghost use Rattle.rv_asm_statements.specs.CodeViews.{argument_view};
 ghost use Rattle.rv_asm_statements.specs.Pieces.{at_name as at_name_meant, at_value as at_value_meant};
 ghost use Rattle.rv_asm_statements.specs.Pieces.{at_place as at_place_meant, ended};
-ghost use Rattle.rv_asm_statements.specs.Pieces.{first_operand, piece_view, pieces_of};
+ghost use Rattle.rv_asm_statements.specs.Pieces.{first_operand, piece_view, pieces_of, those};
+ghost use Rattle.rv_asm_statements.specs.First.{AreFirst};
 
+use crate::few::Few;
 use rv_asm_tokens::{Number, Token, Tokens};
 use std::marker::Model;
 
@@ -114,66 +116,61 @@ fn take_operand<'a>(tokens: &mut Tokens<'a>) -> Option<Piece<'a>>
     }
 }
 
-/// Whether what stands between commas is operands.
-fn all_operands(tokens: &Tokens<'_>) -> bool
-    ensures { result ≡ is_some (pieces_of tokens.now) }
+/// The first of the operands that stand between commas, if nothing else stands there.
+fn first_pieces<'a>(tokens: &Tokens<'a>) -> Option<Few<'a>>
+    ensures { MatchOption result (pieces_of tokens.now ≡ None)
+        (λ few. (is_some (pieces_of tokens.now) ≡ true) × AreFirst few (those (pieces_of tokens.now))) }
 {
+    let mut few = Few::none();
     let mut rest = tokens.again();
     'pieces: loop {
         match take_operand(&mut rest) {
-            None => return false,
+            None => return None,
             Some(piece) => {
+                few.push(piece.operand);
                 if !piece.more {
-                    return true;
+                    return Some(few);
                 }
             }
         }
     }
 }
 
-/// Whether tokens are the operands of a statement.
-#[tactic(auto, using(crate::proofs::Pieces::are_pieces))]
-fn are_operands(tokens: &Tokens<'_>) -> bool
-    ensures { result ≡ is_some (arguments_of tokens.now) }
+/// The first operands of a statement, if its tokens are operands.
+#[tactic(auto, using(crate::proofs::Pieces::no_token, crate::proofs::Pieces::some_token))]
+fn first_operands<'a>(tokens: &Tokens<'a>) -> Option<Few<'a>>
+    ensures { MatchOption result (arguments_of tokens.now ≡ None)
+        (λ few. (is_some (arguments_of tokens.now) ≡ true) × AreFirst few (those (arguments_of tokens.now))) }
 {
-    tokens.is_empty() || all_operands(tokens)
+    if tokens.is_empty() {
+        Some(Few::none())
+    } else {
+        first_pieces(tokens)
+    }
 }
 
-/// The operands of a statement that are left. They are read from its bytes one by one, so they take no memory. Contracts
+/// The operands of a statement that are left. They are read from its tokens one by one, so they take no memory. Contracts
 /// see a list of operands.
 #[derive(Drop)]
-pub struct Operands<'a> {
+pub struct OperandsLeft<'a> {
     tokens: Tokens<'a>,
 }
 
-impl<'a> Model for Operands<'a> {
+impl<'a> Model for OperandsLeft<'a> {
     ghost use Rattle.std.specs.Prelude.{◌≡◌, List, is_some, true};
     ghost use Rattle.rv_asm_statements.specs.Arguments.{Argument, arguments_of};
     ghost use Rattle.rv_asm_statements.specs.Pieces.{those};
 
     ghost Value = { List Argument };
 
-    ghost view = { λ operands. those (arguments_of operands.tokens) };
+    ghost view = { λ left. those (arguments_of left.tokens) };
 
-    ghost invariant = { λ operands. is_some (arguments_of operands.tokens) ≡ true };
+    ghost invariant = { λ left. is_some (arguments_of left.tokens) ≡ true };
 }
 
-impl<'a> Operands<'a> {
+impl<'a> OperandsLeft<'a> {
     ghost use Rattle.std.specs.Prelude.{◌≡◌, ◌∷◌, [], MatchOption};
-    ghost use Rattle.rv_asm_statements.specs.Arguments.{arguments_of};
     ghost use Rattle.rv_asm_statements.specs.CodeViews.{argument_view};
-
-    /// The operands of a statement, or none where what stands between two commas is no operand.
-    #[tactic(auto, using(crate::proofs::Pieces::those_some, crate::proofs::Pieces::those_none))]
-    pub fn of_tokens(tokens: Tokens<'a>) -> Option<Operands<'a>>
-        ensures { result ≡ arguments_of tokens.entry }
-    {
-        if are_operands(&tokens) {
-            Some(Operands { tokens })
-        } else {
-            None
-        }
-    }
 
     /// Takes the first operand, if one is left.
     pub fn next(&mut self) -> Option<Operand<'a>>
@@ -188,12 +185,55 @@ impl<'a> Operands<'a> {
             }
         }
     }
+}
 
-    /// The same operands, which stay here too.
-    pub fn again(&self) -> Operands<'a>
+/// The operands of a statement: the first few, and the tokens of all. Contracts see a list of operands.
+#[derive(Drop)]
+pub struct Operands<'a> {
+    few: Few<'a>,
+    tokens: Tokens<'a>,
+}
+
+impl<'a> Model for Operands<'a> {
+    ghost use Rattle.std.specs.Prelude.{◌≡◌, List, is_some, true};
+    ghost use Rattle.rv_asm_statements.specs.Arguments.{Argument, arguments_of};
+    ghost use Rattle.rv_asm_statements.specs.First.{AreFirst};
+    ghost use Rattle.rv_asm_statements.specs.Pieces.{those};
+
+    ghost Value = { List Argument };
+
+    ghost view = { λ operands. those (arguments_of operands.tokens) };
+
+    ghost invariant = { λ operands. (is_some (arguments_of operands.tokens) ≡ true)
+        × AreFirst operands.few (those (arguments_of operands.tokens)) };
+}
+
+impl<'a> Operands<'a> {
+    ghost use Rattle.std.specs.Prelude.{◌≡◌, ◌<◌, MatchOption, length, map};
+    ghost use Rattle.rv_asm_statements.specs.Arguments.{arguments_of};
+    ghost use Rattle.rv_asm_statements.specs.CodeViews.{argument_view};
+
+    /// The operands of a statement, or none where what stands between two commas is no operand.
+    #[tactic(auto, using(crate::proofs::Pieces::those_some))]
+    pub fn of_tokens(tokens: Tokens<'a>) -> Option<Operands<'a>>
+        ensures { result ≡ arguments_of tokens.entry }
+    {
+        let few = first_operands(&tokens)?;
+        Some(Operands { few, tokens })
+    }
+
+    /// All of them, if there are three at most.
+    pub fn few(&self) -> Option<&[Operand<'a>]>
+        ensures { MatchOption result (3 < length self.now) (λ few. map argument_view few.now ≡ self.now) }
+    {
+        self.few.all()
+    }
+
+    /// All of them, to be taken one by one.
+    pub fn left(&self) -> OperandsLeft<'a>
         ensures { result ≡ self.now }
     {
-        Operands {
+        OperandsLeft {
             tokens: self.tokens.again(),
         }
     }

@@ -127,9 +127,9 @@ fn number_in(table: &[RegisterName], name: &[u8]) -> Option<u8>
     None
 }
 
-/// The number in a name from `x0` to `x29`, which most sources use.
+/// The number in a name from `x0` to `x31`, which most sources use.
 #[inline(always)]
-#[tactic(auto, using(crate::proofs::RegisterNumbers::one_digit, crate::proofs::RegisterNumbers::two_digits))]
+#[tactic(auto, using(crate::proofs::RegisterNumbers::one_digit, crate::proofs::RegisterNumbers::two_digits, crate::proofs::RegisterNumbers::from_thirty))]
 fn number_behind_x(name: &[u8]) -> Option<u8>
     ensures { IfSome result (λ number. register_named name.now ≡ Some number) }
 {
@@ -138,6 +138,7 @@ fn number_behind_x(name: &[u8]) -> Option<u8>
         [b'x', tens @ b'1'..=b'2', ones @ b'0'..=b'9'] => {
             Some((*tens - b'0') * 10 + (*ones - b'0'))
         }
+        [b'x', b'3', ones @ b'0'..=b'1'] => Some(30 + (*ones - b'0')),
         _ => None,
     }
 }

@@ -57,10 +57,13 @@ pub fn parse_statement(
     ensures value { Gives (λ found. found) result (statement_of tokens.now) }
     ensures memory { result ≡ Err kinds.Memory → IsTrue (begins_with_name tokens.now) }
 {
-    let mut rest = tokens.again();
-    match rest.next() {
+    match tokens.get(0) {
         None => Ok(None),
-        Some(Token::Name(word)) => Ok(Some(named_statement(alloc, word, rest)?)),
+        Some(Token::Name(word)) => {
+            let mut rest = tokens.again();
+            rest.next();
+            Ok(Some(named_statement(alloc, word, rest)?))
+        }
         Some(_) => Err(AsmFaultKind::Mnemonic),
     }
 }
@@ -70,10 +73,11 @@ pub fn parse_statement(
 pub fn long_data(most: u32, tokens: &Tokens<'_>) -> Option<Width>
     ensures { result ≡ long_data_meant most (statement_of tokens.now) }
 {
-    let mut rest = tokens.again();
-    match rest.next() {
+    match tokens.get(0) {
         Some(Token::Name(word)) => {
             if begins_with_dot(word) {
+                let mut rest = tokens.again();
+                rest.next();
                 long_directive(most, word, rest)
             } else {
                 None

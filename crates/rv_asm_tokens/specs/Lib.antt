@@ -7,4 +7,5 @@ pub mod Escapes
 pub mod Scan
 pub mod FrontView
 pub mod Cursor
+pub mod Kept
 pub mod Grammar

@@ -1,8 +1,8 @@
 //! What stands at a byte of a line, and so its first token.
 
-ghost use Rattle.std.specs.Prelude.{◌≡◌, ◌≤◌, ◌+◌, IfOk, IsOk, List, MatchResult, Err, drop, length};
+ghost use Rattle.std.specs.Prelude.{◌≡◌, ◌≤◌, ◌<◌, ◌+◌, ◌∷◌, [], IfOk, IfSome, IsOk, List, MatchOption, MatchResult, Err, drop, length};
 ghost use Rattle.std.specs.Option.{option_map};
-ghost use Rattle.rv_asm_tokens.specs.Cursor.{Begins};
+ghost use Rattle.rv_asm_tokens.specs.Cursor.{Begins, tokens_in};
 ghost use Rattle.rv_asm_tokens.specs.Lexeme.{Lexeme};
 ghost use Rattle.rv_asm_tokens.specs.Returned.{Is};
 ghost use Rattle.rv_asm_tokens.specs.TokenView.{lexeme_of};
@@ -197,7 +197,8 @@ pub struct First<'a> {
 
 /// The first token of bytes, if one is left: `Token` where a character, number or string before it or there is none.
 pub fn first_token(bytes: &[u8]) -> Result<Option<First<'_>>, AsmFaultKind>
-    ensures { MatchResult result (Begins bytes.now) (λ e. tokens_of bytes.now ≡ Err e) }
+    ensures begins { MatchResult result (Begins bytes.now) (λ e. tokens_of bytes.now ≡ Err e) }
+    ensures shorter { IfOk result (λ found. IfSome found (λ f. length f.rest.now < length bytes.now)) }
 {
     let mut at = past_blanks(bytes, 0);
     while at < bytes.len() {
@@ -219,15 +220,21 @@ pub fn first_token(bytes: &[u8]) -> Result<Option<First<'_>>, AsmFaultKind>
 pub fn check_tokens(bytes: &[u8]) -> Result<(), AsmFaultKind>
     ensures { MatchResult result (λ _. IsOk (tokens_of bytes.now)) (λ e. tokens_of bytes.now ≡ Err e) }
 {
-    let mut at = past_blanks(bytes, 0);
-    while at < bytes.len() {
-        let here = behind(bytes, at);
-        let after = behind(bytes, at + 1);
-        match found_at(bytes[at], here, after)? {
-            Front::Comment => return Ok(()),
-            Front::Blank => at += 1,
-            Front::Piece(_, more) => at = past_blanks(bytes, at + 1 + more),
-        }
+    let mut rest = bytes;
+    while let Some(first) = first_token(rest)? {
+        rest = first.rest;
     }
     Ok(())
+}
+
+/// The first token of bytes that are tokens, if one is left.
+pub fn first_left(bytes: &[u8]) -> Option<First<'_>>
+    requires { IsOk (tokens_of bytes.now) }
+    ensures { MatchOption result (tokens_in bytes.now ≡ []) (λ f. IsOk (tokens_of f.rest.now)
+        × (tokens_in bytes.now ≡ lexeme_of f.token ∷ tokens_in f.rest.now)) }
+{
+    match first_token(bytes) {
+        Ok(first) => first,
+        Err(_) => None,
+    }
 }

@@ -1,11 +1,13 @@
-use Rattle.std.proofs.Common.{◌≡◌, ◌≤◌, ◌-◌, List, drop, length}
+use Rattle.std.proofs.Common.{◌≡◌, List, length}
+use Rattle.rv_asm_tokens.specs.Fault.{◌>>=◌}
 use Rattle.rv_asm_tokens.specs.Lexeme.{Lexeme}
-use Rattle.rv_asm_tokens.specs.Scan.{tokens_from, tokens_of}
+use Rattle.rv_asm_tokens.specs.Scan.{tokens_of}
+use Rattle.rv_asm_tokens.proofs.Kept.{behind}
 use Rattle.rv_asm_tokens.proofs.scanning.check_tokens.Given as goal
 
 -- the bytes that are left come, behind some tokens, to what all come to
-abbrev pub invariant-loop-at : goal.invariant-loop-at
-invariant-loop-at l = (l.at ≤ length l.bytes) × ((done : List Lexeme) × (tokens_from 0 done (drop l.at l.bytes) ≡ tokens_of l.bytes))
+abbrev pub invariant-loop-first : goal.invariant-loop-first
+invariant-loop-first l = (done : List Lexeme) × (tokens_of l.bytes ≡ behind done (tokens_of l.rest))
 
-abbrev pub decreases-loop-at : goal.decreases-loop-at
-decreases-loop-at l = length l.bytes - l.at
+abbrev pub decreases-loop-first : goal.decreases-loop-first
+decreases-loop-first l = length l.rest

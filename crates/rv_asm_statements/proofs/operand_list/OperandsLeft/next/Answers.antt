@@ -1,7 +1,7 @@
 use Rattle.std.proofs.Common.{Some, None, ◌≡◌, sym, ◌∙◌}
 use Rattle.rv_asm_statements.specs.Pieces.{first_operand, piece_view}
 use Rattle.rv_asm_statements.proofs.Pieces.{next_none, next_some}
-use Rattle.rv_asm_statements.proofs.operand_list.Operands.next.Goals as goal
+use Rattle.rv_asm_statements.proofs.operand_list.OperandsLeft.next.Goals as goal
 
 pub invariant_of-self : goal.invariant_of-self
 invariant_of-self c =

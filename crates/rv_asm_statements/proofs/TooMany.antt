@@ -1,5 +1,5 @@
 -- More operands than a statement takes.
-use Rattle.std.proofs.Common.{◌≡◌, ℕ, Bool, true, false, List, [], ◌∷◌, Option, None, refl, sym, ap, ◌∙◌}
+use Rattle.std.proofs.Common.{◌≡◌, ◌<◌, ℕ, Bool, true, false, List, [], ◌∷◌, length, Option, None, refl, sym, ap, ◌∙◌, arith}
 use Rattle.std.specs.Str.{bytes_eq}
 use Rattle.rv_asm_statements.specs.declared.rows.Shape.{Shape}
 use Rattle.rv_asm_statements.specs.declared.rows.Shape.TheVariants as shape
@@ -43,8 +43,15 @@ none_given f [] h = refl
 none_given f (x ∷ xs) h = rw (h x) (none_given f xs h)
 
 -- no row takes four
-pub no_use_of_four : (w : List ℕ) (a b c d : Argument) (xs : List Argument) → use_of w (a ∷ b ∷ c ∷ d ∷ xs) ≡ None
+no_use_of_four : (w : List ℕ) (a b c d : Argument) (xs : List Argument) → use_of w (a ∷ b ∷ c ∷ d ∷ xs) ≡ None
 no_use_of_four w a b c d xs = none_given (row_use w (a ∷ b ∷ c ∷ d ∷ xs)) rows (unused w a b c d xs)
+
+pub no_use_past_three : (w : List ℕ) (xs : List Argument) → 3 < length xs → use_of w xs ≡ None
+no_use_past_three w [] h = absurd (omega arith)
+no_use_past_three w (a ∷ []) h = absurd (omega arith)
+no_use_past_three w (a ∷ b ∷ []) h = absurd (omega arith)
+no_use_past_three w (a ∷ b ∷ c ∷ []) h = absurd (omega arith)
+no_use_past_three w (a ∷ b ∷ c ∷ d ∷ xs) h = no_use_of_four w a b c d xs
 
 no_number : (a b : Argument) (xs : List Argument) → only_number (a ∷ b ∷ xs) ≡ None
 no_number (word w) b xs = refl
@@ -80,7 +87,7 @@ no_link (value z) (sum w y) c xs = refl
 no_link (value z) (place y w) c xs = refl
 
 -- no directive but a communicator and data takes three
-pub no_directive_of_three : (f : Form) (a b c : Argument) (xs : List Argument) → takes_two f ≡ true → directive_by f (a ∷ b ∷ c ∷ xs) ≡ None
+no_directive_of_three : (f : Form) (a b c : Argument) (xs : List Argument) → takes_two f ≡ true → directive_by f (a ∷ b ∷ c ∷ xs) ≡ None
 unfolding directive_by
 no_directive_of_three form.Ranks a b c xs h = rw (no_number a b (c ∷ xs)) refl
 no_directive_of_three form.Harts a b c xs h = rw (no_number a b (c ∷ xs)) refl
@@ -96,6 +103,12 @@ no_directive_of_three form.Data a b c xs h = refl
 no_directive_of_three form.Link a b c xs h = no_link a b c xs
 no_directive_of_three form.Comm a b c xs h = absurd cc
 no_directive_of_three (form.Items w) a b c xs h = absurd cc
+
+pub no_directive_past_three : (f : Form) (xs : List Argument) → takes_two f ≡ true → 3 < length xs → directive_by f xs ≡ None
+no_directive_past_three f [] two h = absurd (omega arith)
+no_directive_past_three f (a ∷ []) two h = absurd (omega arith)
+no_directive_past_three f (a ∷ b ∷ []) two h = absurd (omega arith)
+no_directive_past_three f (a ∷ b ∷ c ∷ xs) two h = no_directive_of_three f a b c xs two
 
 -- what a name's rows make of all operands
 pub uses_all : (table : List Row) (found : Option Use) (w : List ℕ) → ((xs : List Argument) → first_given (row_use w xs) table ≡ use_of w xs) → (xs ys : List Argument) → found ≡ first_given (row_use w xs) table → ys ≡ xs → found ≡ use_of w ys
