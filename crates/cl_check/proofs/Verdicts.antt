@@ -1,25 +1,23 @@
 -- Verdicts of lists of steps.
-use Rattle.std.specs.Prelude.{ℕ, zero, suc, ◌+◌, ◌-◌, ◌<◌, ◌≤◌, ◌≡◌, ◌↔◌, List, [], ◌∷◌, ◌++◌, Option, None, Some}
-use Rattle.std.specs.Prelude.{length}
-use Rattle.std.specs.Prelude.{slice_get, take}
+use Rattle.std.specs.Prelude.{ℕ, zero, suc, ◌+◌, ◌-◌, ◌<◌, ◌≤◌, ◌≡◌, ◌↔◌, List, [], ◌∷◌, None, Some, length, slice_get, take}
 use Rattle.std.specs.List.{last_or, AllByRecursion}
-use Rattle.std.proofs.Common.{refl, sym, ap, ◌∙◌, subst, add-one, arith}
+use Rattle.std.proofs.Common.{refl, sym, ap, ◌∙◌, subst, arith}
 use Rattle.std.proofs.lemmas.List.{take_all, take-take}
 use Rattle.std.proofs.lemmas.Option.{same_Some}
 use Rattle.rv_image_types.specs.declared.images.ImageParts.{ImageParts}
 use Rattle.cl_machine.specs.Cluster.{Cluster, IsRun, IsStep, loaded_cluster}
 use Rattle.cl_machine.specs.Laws.{ComesAfter, IsGood}
-use Rattle.cl_machine.specs.Order.{Before, InOrder}
+use Rattle.cl_machine.specs.Order.{Before}
 use Rattle.cl_machine.specs.declared.steps.Step.{Step}
-use Rattle.cl_machine.proofs.Verdicts.{one_merge, step_by_step}
+use Rattle.cl_machine.proofs.Verdicts.{one_merge}
 use Rattle.cl_record.specs.Records.{steps_in}
 use Rattle.cl_check.specs.declared.checking.Verdict.{Verdict}
 use Rattle.cl_replay.specs.declared.states.ClusterState.{ClusterState}
 use Rattle.cl_check.specs.Checks.{IsOrderedRun}
 use Rattle.cl_check.specs.Laws.{MergedIsGoodLaw, OneVerdictLaw}
 use Rattle.cl_replay.specs.Replaying.{IsReached}
-use Rattle.cl_replay.specs.Steps.{Leads, LeadsNowhere}
-use Rattle.cl_replay.proofs.Runs.{take_next}
+use Rattle.cl_replay.specs.Steps.{LeadsNowhere}
+use Rattle.cl_replay.proofs.Orders.{StepsInOrder, last-take, more, with_next}
 
 -- ---- the first steps of a run in order are one
 
@@ -34,9 +32,6 @@ all_in_first : (P : Step → Type 0) (es : List Step) (n : ℕ) → AllByRecursi
 all_in_first P es zero h = tt
 all_in_first P [] (suc n) h = tt
 all_in_first P (e ∷ es) (suc n) h = (h.0, all_in_first P es n h.1)
-
-abbrev pub StepsInOrder : List Step → Type 0
-StepsInOrder = InOrder (λ (e : Step). e.stamp) (λ (e : Step). e.rank)
 
 take_order : (es : List Step) (n : ℕ) → StepsInOrder es → StepsInOrder (take n es)
 take_order es zero h = tt
@@ -84,17 +79,6 @@ step_there [] n below = absurd (omega (arith, below))
 step_there (e ∷ es) zero below = (e, refl)
 step_there (e ∷ es) (suc n) below = step_there es n (omega (arith, below))
 
-last-push : (o : Option Step) (es : List Step) (e : Step) → last_or o (es ++ e ∷ []) ≡ Some e
-last-push o [] e = refl
-last-push o (x ∷ es) e = last-push (Some x) es e
-
-pub last-take : (es : List Step) (n : ℕ) (e : Step) → 0 < n → slice_get es (n - 1) ≡ Some e
-    → last_or None (take n es) ≡ Some e
-last-take es n e up there =
-    let up_to : n ≡ suc (n - 1) = omega (arith, up) in
-    ap (λ k. last_or None (take k es)) up_to ∙ ap (last_or None) (take_next es (n - 1) e there)
-    ∙ last-push None (take (n - 1) es) e
-
 -- what comes after step n - 1 comes after the last of the first n steps
 pub after_last : (P : Type 0) (es : List Step) (n : ℕ) (last e step : Step) → 0 < n → slice_get es (n - 1) ≡ Some last
     → slice_get es n ≡ Some e → slice_get es n ≡ Some step → P ↔ ComesAfter (Some last) e
@@ -108,21 +92,15 @@ after_last P es n last e step up before here there h =
 module _ (image : ImageParts) (steps : List Step) (n : ℕ) (state : ClusterState)
     (reached : IsReached image steps n state)
     (order : StepsInOrder (take n steps)) (e : Step) (there : slice_get steps n ≡ Some e) where
-  -- with it the first steps stay a run in order just where it is a step from there that comes after the last
-  with_next : IsGood (loaded_cluster image) (take n steps ++ e ∷ [])
-      ↔ (((new : Cluster) × IsStep reached.cluster e new) × ComesAfter (last_or None (take n steps)) e)
-  with_next = step_by_step (loaded_cluster image) reached.cluster (take n steps) e reached.run order
-
-  more : take (n + 1) steps ≡ take n steps ++ e ∷ []
-  more = ap (λ k. take k steps) (add-one n) ∙ take_next steps n e there
-
   pub so_far : IsOrderedRun image (take n steps)
   so_far = record { cluster = reached.cluster; run = reached.run; in_order = order }
 
   its_parts : IsOrderedRun image (take (n + 1) steps)
       → ((new : Cluster) × IsStep reached.cluster e new) × ComesAfter (last_or None (take n steps)) e
   its_parts h =
-      with_next.0 (subst (IsGood (loaded_cluster image)) more ((h.cluster, h.run), h.in_order))
+      (with_next image steps n state reached order e there).0
+      (subst (IsGood (loaded_cluster image)) (more image steps n state reached order e there)
+      ((h.cluster, h.run), h.in_order))
 
   pub too_early : ¬ ComesAfter (last_or None (take n steps)) e → ¬ IsOrderedRun image (take (n + 1) steps)
   too_early early h = early (its_parts h).1
@@ -130,12 +108,6 @@ module _ (image : ImageParts) (steps : List Step) (n : ℕ) (state : ClusterStat
   pub no_step : LeadsNowhere state e → ¬ IsOrderedRun image (take (n + 1) steps)
   no_step nowhere h =
       let step = (its_parts h).0 in nowhere image reached.cluster step.0 reached.stands step.1
-
-  pub order_more : (new : ClusterState) → Leads state e new → ComesAfter (last_or None (take n steps)) e
-      → StepsInOrder (take (n + 1) steps)
-  order_more new leads after =
-      let next = leads image reached.cluster reached.stands in
-      subst StepsInOrder (sym more) (with_next.1 ((next.0, next.1), after)).1
 
 -- all steps were done
 pub good_at_end : (image : ImageParts) (steps : List Step) (n : ℕ) (state : ClusterState) → length steps ≤ n

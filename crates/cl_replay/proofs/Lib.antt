@@ -4,6 +4,7 @@ pub mod Clusters
 pub mod ByKind
 pub mod Lifts
 pub mod Runs
+pub mod Orders
 pub mod Spells
 pub mod Records
 pub mod Same

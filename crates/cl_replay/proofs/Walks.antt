@@ -27,9 +27,9 @@ use Rattle.cl_replay.specs.Turns.{AsksNext, IsTold}
 use Rattle.cl_replay.specs.declared.walking.Whose.{Whose}
 use Rattle.cl_replay.specs.Walking.{GoesOn, HartAt, HartGoesOn, HasHart, StandsIn, with_hart, with_rank}
 use Rattle.cl_replay.proofs.ByKind.{plain_leads}
+use Rattle.cl_replay.proofs.Orders.{last-take, order_more}
 use Rattle.cl_replay.proofs.Runs.{reached_more}
 use Rattle.cl_replay.proofs.Same.{same_stands}
-use Rattle.cl_check.proofs.Verdicts.{last-take, order_more}
 
 -- what was written twice was written once
 set_twice : {X : Type 0} (xs : List X) (k : ℕ) (x y : X) → slice_set (slice_set xs k x) k y ≡ slice_set xs k y

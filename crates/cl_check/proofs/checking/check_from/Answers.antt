@@ -1,7 +1,8 @@
 use Rattle.std.proofs.Common.{refl, arith, length}
 use Rattle.std.proofs.lemmas.Option.{slice_get_read}
+use Rattle.cl_replay.proofs.Orders.{order_more}
 use Rattle.cl_replay.proofs.Runs.{reached_more}
-use Rattle.cl_check.proofs.Verdicts.{good_at_end, no_step, order_more, so_far, step_there, too_early}
+use Rattle.cl_check.proofs.Verdicts.{good_at_end, no_step, so_far, step_there, too_early}
 use Rattle.cl_check.proofs.checking.check_from.Goals as goal
 
 pub loop-n-init : goal.loop-n-init
