@@ -7,7 +7,7 @@ use Rattle.rv_image_types.specs.declared.images.Link.{Link}
 use Rattle.part_box.specs.declared.view.Receiving.{Receiving}
 use Rattle.part_box.specs.declared.view.Sending.{Sending}
 use Rattle.part_channel.specs.Channels.{ChannelView}
-use Rattle.cl_rank.specs.declared.sides.BoxId.{BoxId}
+use Rattle.cl_sides.specs.declared.steps.BoxId.{BoxId}
 use Rattle.cl_rank.specs.RankSides.{AreChannelsOf, receiver_of, sender_of}
 use Rattle.cl_rank.specs.Views.{place_in}
 use Rattle.cl_run.specs.declared.driver.Driver.{Driver}
