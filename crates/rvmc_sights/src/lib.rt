@@ -15,6 +15,6 @@ pub use gave::{BoxNumber, is_refused};
 pub use lines::{After, Seen, box_in, look, look_again, put_head, put_sight};
 pub use pieces::put_piece;
 pub use rvmc_inspect::{
-    Wait, address_of, bytes_text, deadlock, faults, listing, place_text, put_company,
-    put_harts, regs_text, tell_all, waits, why,
+    Wait, address_of, bytes_text, deadlock, faults, listing, place_text, put_company, put_harts,
+    regs_text, tell_all, waits, why,
 };
