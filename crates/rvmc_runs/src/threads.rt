@@ -1,6 +1,6 @@
-//! Runtimes with threads, which answer `run`, and the one that has none.
+//! Runtimes with threads, which answer `run`, and the one that has none and refuses it.
 
-ghost use Rattle.std.specs.Prelude.{IfErr, IfOk};
+ghost use Rattle.std.specs.Prelude.{IfErr, IfOk, ⊤};
 ghost use Rattle.cl_record.specs.Plans.{HasPlans};
 ghost use Rattle.rvmc_answers.specs.Ends.{end_status};
 ghost use Rattle.rvmc_answers.specs.Making.{IsRunFault, IsWhole};
@@ -10,20 +10,21 @@ ghost use Rattle.rvmc_runs.specs.Runs.{IsRunAnswer, IsThreadsUntilStuck};
 
 use crate::runs::run_by;
 use crate::stuck::run_until_stuck_by;
+use cl_record::has_plans;
 use rv_image_types::Image;
 use rvmc_answers::Answer;
 use rvmc_answers::faults::Fault;
 use rvmc_answers::plans::plans_of;
 use rvmc_line::Written;
 use rvmc_words::Numbers;
-use std::alloc::Global;
+use std::alloc::{AllocError, Global};
 use std::sync::Wait;
 use std::thread::Threads;
 
-/// A runtime that has threads, by which it answers `run`, or none.
+/// A runtime that has threads, by which it answers `run`, or none, and then refuses it.
 pub trait MaybeThreads {
-    // it has threads
-    ghost has_threads: { Type 0 };
+    // what it takes to ask it for a run
+    ghost may_ask: { Type 0 };
 
     /// `run`: a run by the same plan for each rank, each rank on a thread of its own, to the end of its plans. A rank that is
     /// more than `lead` turns ahead is held back.
@@ -36,7 +37,7 @@ pub trait MaybeThreads {
         lead: u64,
         written: Written,
     ) -> Result<Answer, Fault>
-        requires { has_threads }
+        requires { may_ask }
         ensures says { IfOk result (λ answer.
             IsRunAnswer image.now budget harts.now written (output_bytes answer.output) (end_status answer.end)) }
         ensures whole { IfOk result (λ answer. IsWhole answer.end) }
@@ -54,7 +55,7 @@ pub trait MaybeThreads {
         lead: u64,
         written: Written,
     ) -> Result<Answer, Fault>
-        requires { has_threads }
+        requires { may_ask }
         ensures says { IfOk result (λ answer.
             IsThreadsUntilStuck image.now budget harts.now written (output_bytes answer.output) (end_status answer.end)) }
         ensures whole { IfOk result (λ answer. IsWhole answer.end) }
@@ -66,8 +67,8 @@ pub trait MaybeThreads {
 impl<R: Threads + Wait + Sync> MaybeThreads for R {
     ghost use Rattle.std.specs.Thread.{IsSync};
 
-    // they share it
-    ghost has_threads = { IsSync R.row };
+    // its threads share it
+    ghost may_ask = { IsSync R.row };
 
     fn run(
         &self,
@@ -96,34 +97,53 @@ impl<R: Threads + Wait + Sync> MaybeThreads for R {
     }
 }
 
-/// A runtime without threads, which nobody may ask for a run.
+/// Why there is no run without threads: a plan is wrong, or else a thread is refused.
+fn refused(
+    alloc: Global,
+    image: &Image,
+    budget: u64,
+    harts: &Option<Numbers>,
+) -> Result<Fault, AllocError>
+    ensures { IfOk result (IsRunFault
+        (ByPlans image.now budget harts.now (λ plans. ¬ (HasPlans image.now plans)))
+        (ByPlans image.now budget harts.now (HasPlans image.now))) }
+{
+    let plans = plans_of(alloc, image, budget, harts)?;
+    if has_plans(image, plans.as_slice()) {
+        Ok(Fault::Spawn)
+    } else {
+        Ok(Fault::Plans)
+    }
+}
+
+/// A runtime without threads: each run is refused its first one.
 #[derive(Clone, Copy)]
 pub struct NoThreads;
 
 impl MaybeThreads for NoThreads {
-    ghost has_threads = { ⊥ };
+    ghost may_ask = { ⊤ };
 
     fn run(
         &self,
-        _alloc: Global,
-        _image: &Image,
-        _budget: u64,
-        _harts: &Option<Numbers>,
+        alloc: Global,
+        image: &Image,
+        budget: u64,
+        harts: &Option<Numbers>,
         _lead: u64,
         _written: Written,
     ) -> Result<Answer, Fault> {
-        unreachable!()
+        Err(refused(alloc, image, budget, harts)?)
     }
 
     fn run_until_stuck(
         &self,
-        _alloc: Global,
-        _image: &Image,
-        _budget: u64,
-        _harts: &Option<Numbers>,
+        alloc: Global,
+        image: &Image,
+        budget: u64,
+        harts: &Option<Numbers>,
         _lead: u64,
         _written: Written,
     ) -> Result<Answer, Fault> {
-        unreachable!()
+        Err(refused(alloc, image, budget, harts)?)
     }
 }

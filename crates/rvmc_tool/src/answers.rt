@@ -67,7 +67,7 @@ fn made<R: MaybeThreads, E: Write>(
     command: &ImageCommand,
     err: &mut E,
 ) -> Result<Answer, Fault>
-    requires threads { runs_threads command.now ≡ true → R.has_threads }
+    requires threads { runs_threads command.now ≡ true → R.may_ask }
     requires kept { command.now ≢ asked.Asm true }
     ensures says { IfOk result (λ answer.
         Makes command.now image.now (output_bytes answer.output) (end_status answer.end)) }
@@ -137,7 +137,7 @@ fn answer_of_image<R: MaybeThreads, E: Write>(
     command: &ImageCommand,
     err: &mut E,
 ) -> Result<Answer, Fault>
-    requires { runs_threads command.now ≡ true → R.has_threads }
+    requires { runs_threads command.now ≡ true → R.may_ask }
     ensures says { IfOk result (λ answer.
         SaysOfImage source command.now bytes.now (output_bytes answer.output) (end_status answer.end)) }
     ensures whole { IfOk result (λ answer. IsWhole answer.end) }
@@ -168,7 +168,7 @@ pub fn answer<R: MaybeThreads, E: Write>(
     bytes: &[u8],
     err: &mut E,
 ) -> Result<Answer, Fault>
-    requires threads { needs_threads line.now ≡ true → R.has_threads }
+    requires threads { needs_threads line.now ≡ true → R.may_ask }
     requires whole { is_written_as_made line.now ≡ false }
     ensures says { IfOk result (λ answer.
         Says line.now bytes.now (output_bytes answer.output) (end_status answer.end)) }
