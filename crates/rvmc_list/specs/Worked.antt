@@ -10,6 +10,7 @@ use Rattle.rv_image_types.specs.declared.images.Symbol.{Symbol}
 use Rattle.rv_memory.specs.declared.fault.Cause.TheVariants.{LoadMisaligned, StoreAccess}
 use Rattle.mp_types.specs.declared.messages.Message.{Message}
 use Rattle.mp_types.specs.declared.replies.Reply.TheVariants as reply
+use Rattle.cl_calls.specs.Names.{call_name}
 use Rattle.cl_machine.specs.Boxes.{Box, Thing, empty_box}
 use Rattle.cl_state.specs.declared.asking.Ask.{Ask}
 use Rattle.cl_state.specs.declared.asking.Ask.TheVariants as ask
@@ -131,7 +132,7 @@ send_at = hart_with 0x38 ((10, 0x80) ∷ (11, 5000) ∷ (12, 1) ∷ (13, 7) ∷ 
 pub a_refused_send : scenes_text two_symbols all_steps
     (scene_of Kind.Local send_at None None (hart_with 0x3c ((10, 2) ∷ (17, 16) ∷ [])) None ∷ [])
     ≡ codes "7 rank 2 hart 1 stamp 9 at take+0x20 [0x38]: SEND refused: BAD_COUNT buf=0x80 count=5000 dest=1 tag=7 c=0\n"
-unfolding sight_text named_address_text place_name line_at nearest_of line_named digits
+unfolding sight_text call_name named_address_text place_name line_at nearest_of line_named digits
 a_refused_send = refl
 
 -- RECV of any rank and any tag
@@ -147,7 +148,7 @@ pub a_message : scenes_text [] all_steps
     ∷ 14 ∷ 15 ∷ [])))) recv_at None None (hart_with 0x3c ((10, 7) ∷ (17, 18) ∷ [])) None ∷ [])
     ≡ codes "7 rank 2 hart 1 stamp 9 at 0x38: RECV buf=0x80 cap=4 source=any tag=any c=0 st=0x0"
     ++ codes " -> message from rank 3 tag 7, 18 bytes: 0c 00 ff 01 02 03 04 05 06 07 08 09 0a 0b 0c 0d -> TRUNCATED\n"
-unfolding sight_text named_address_text place_name line_at nearest_of line_named digits
+unfolding sight_text call_name named_address_text place_name line_at nearest_of line_named digits
 a_message = refl
 
 -- it looks in vain three times, which is one line where calls alone are told, and no other line stands between
@@ -157,7 +158,7 @@ in_vain = scene_of (Kind.Hub reply.NotYet) recv_at None None (in_mode recv_at (W
 pub looks_in_vain : scenes_text [] calls_alone (in_vain ∷ plain_scene (fresh 4) 0x13 (fresh 8) ∷ in_vain ∷ in_vain ∷ [])
     ≡ codes "7 rank 2 hart 1 stamp 9 at 0x38: RECV buf=0x80 cap=4 source=any tag=any c=0 st=0x0 -> waits"
     ++ codes " and 2 more looks in vain\n"
-unfolding sight_text named_address_text place_name line_at nearest_of line_named digits
+unfolding sight_text call_name named_address_text place_name line_at nearest_of line_named digits
 looks_in_vain = refl
 
 -- ---- partitions
@@ -167,7 +168,7 @@ pub a_ready : scenes_text [] all_steps
     (scene_of Kind.Ready (hart_with 8 ((10, 3) ∷ (11, 1) ∷ (17, 42) ∷ [])) None (Some (0, 1)) (hart_with 12 []) (Some 2)
     ∷ [])
     ≡ codes "7 rank 2 hart 1 stamp 9 at 0x8: PREADY h=3 partition=1 -> link 0 partition 1 -> phase 2\n"
-unfolding sight_text named_address_text place_name line_at nearest_of line_named digits
+unfolding sight_text call_name named_address_text place_name line_at nearest_of line_named digits
 a_ready = refl
 
 -- a box in which so many things were made, and so many taken
