@@ -2,12 +2,10 @@
 
 ghost use Rattle.std.specs.Prelude.{◌≡◌, ◌≢◌, IfErr, IfOk, false, true};
 ghost use Rattle.cl_lines.specs.Telling.{TellsProgress};
-ghost use Rattle.rv_image.specs.Text.{image_text};
 ghost use Rattle.rvmc_line.specs.declared.line.ImageCommand.TheVariants as asked;
-ghost use Rattle.rvmc_answers.specs.Below.{listing};
 ghost use Rattle.rvmc_tool.specs.Answers.{Makes, Says, SaysOfImage};
-ghost use Rattle.rvmc_answers.specs.Ends.{IsDone, end_status};
-ghost use Rattle.rvmc_tool.specs.Making.{EndsSo, IsFaultOf, IsImageFault, needs_threads, RefusesImage, runs_threads};
+ghost use Rattle.rvmc_answers.specs.Ends.{end_status};
+ghost use Rattle.rvmc_tool.specs.Making.{EndsSo, IsFaultOf, IsImageFault, needs_threads, RefusesImage};
 ghost use Rattle.rvmc_answers.specs.Making.{IsWhole};
 ghost use Rattle.rvmc_tool.specs.Made.{is_written_as_made};
 ghost use Rattle.rvmc_answers.specs.Outputs.{output_bytes};
@@ -19,34 +17,12 @@ use rv_image::write_image;
 use rv_image_types::Image;
 use rvmc_answers::faults::Fault;
 use rvmc_answers::listing::listing;
-use rvmc_answers::{Answer, End, Output, image_in};
+use rvmc_answers::{Answer, image_in};
 use rvmc_line::{CommandLine, ImageCommand};
 use rvmc_runs::{MaybeThreads, NoThreads, one, one_until_stuck};
 use rvmc_views::answer_of_record;
-use std::alloc::{AllocError, Global};
+use std::alloc::Global;
 use std::io::Write;
-
-/// The bytes of an image.
-fn written(alloc: Global, image: &Image) -> Result<Answer, AllocError>
-    ensures done { IfOk result (λ answer.
-        IsDone (image_text image.now) (output_bytes answer.output) (end_status answer.end)) }
-    ensures whole { IfOk result (λ answer. IsWhole answer.end) }
-{
-    let output = Output::Text(write_image(alloc, image)?);
-    let end = End::Status(0);
-    Ok(Answer { output, end })
-}
-
-/// The listing of an image.
-fn listed(alloc: Global, image: &Image) -> Result<Answer, AllocError>
-    ensures done { IfOk result (λ answer.
-        IsDone (listing image.now) (output_bytes answer.output) (end_status answer.end)) }
-    ensures whole { IfOk result (λ answer. IsWhole answer.end) }
-{
-    let output = Output::Text(listing(alloc, image)?);
-    let end = End::Status(0);
-    Ok(Answer { output, end })
-}
 
 /// `asm --from`: an image is taken from the bytes, and written in version 2.
 fn rewritten(alloc: Global, bytes: &[u8], source: bool) -> Result<Answer, Fault>
@@ -56,7 +32,7 @@ fn rewritten(alloc: Global, bytes: &[u8], source: bool) -> Result<Answer, Fault>
     ensures fault { IfErr result (IsImageFault source (asked.Asm true) bytes.now) }
 {
     let image = image_in(alloc, source, bytes)?.into_version_two();
-    Ok(written(alloc, &image)?)
+    Ok(Answer::done(write_image(alloc, &image)?))
 }
 
 /// What a command makes of the image that it takes, if it takes it as it is: one case a command.
@@ -67,7 +43,7 @@ fn made<R: MaybeThreads, E: Write>(
     command: &ImageCommand,
     err: &mut E,
 ) -> Result<Answer, Fault>
-    requires threads { runs_threads command.now ≡ true → R.may_ask }
+    requires threads { R.may_ask }
     requires kept { command.now ≢ asked.Asm true }
     ensures says { IfOk result (λ answer.
         Makes command.now image.now (output_bytes answer.output) (end_status answer.end)) }
@@ -76,8 +52,8 @@ fn made<R: MaybeThreads, E: Write>(
     ensures progress { TellsProgress (asks_progress command.now) (E.contents err.old) (E.contents err.new) }
 {
     match command {
-        ImageCommand::Asm { .. } => Ok(written(alloc, image)?),
-        ImageCommand::Dis => Ok(listed(alloc, image)?),
+        ImageCommand::Asm { .. } => Ok(Answer::done(write_image(alloc, image)?)),
+        ImageCommand::Dis => Ok(Answer::done(listing(alloc, image)?)),
         ImageCommand::Run {
             budget,
             plan,
@@ -137,7 +113,7 @@ fn answer_of_image<R: MaybeThreads, E: Write>(
     command: &ImageCommand,
     err: &mut E,
 ) -> Result<Answer, Fault>
-    requires { runs_threads command.now ≡ true → R.may_ask }
+    requires { R.may_ask }
     ensures says { IfOk result (λ answer.
         SaysOfImage source command.now bytes.now (output_bytes answer.output) (end_status answer.end)) }
     ensures whole { IfOk result (λ answer. IsWhole answer.end) }
@@ -168,7 +144,7 @@ pub fn answer<R: MaybeThreads, E: Write>(
     bytes: &[u8],
     err: &mut E,
 ) -> Result<Answer, Fault>
-    requires threads { needs_threads line.now ≡ true → R.may_ask }
+    requires threads { R.may_ask }
     requires whole { is_written_as_made line.now ≡ false }
     ensures says { IfOk result (λ answer.
         Says line.now bytes.now (output_bytes answer.output) (end_status answer.end)) }

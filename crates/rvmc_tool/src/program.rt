@@ -157,7 +157,7 @@ fn answered<R: MaybeThreads, I: Read, O: Write, E: Write>(
     out: &mut O,
     err: &mut E,
 ) -> u8
-    requires threads { needs_threads line.now ≡ true → R.may_ask }
+    requires threads { R.may_ask }
     requires whole { is_written_as_made line.now ≡ false }
     ensures answers { (bytes : List ℕ) → I.remaining input.old ≡ Some bytes → result ≢ 6
         → Answers line.now bytes result (O.contents out.old) (O.contents out.new) }
@@ -186,7 +186,7 @@ fn obey<R: MaybeThreads, I: Read, O: Write, E: Write>(
     out: &mut O,
     err: &mut E,
 ) -> u8
-    requires { needs_threads line.now ≡ true → R.may_ask }
+    requires { R.may_ask }
     ensures answers { (bytes : List ℕ) → I.remaining input.old ≡ Some bytes → result ≢ 6
         → Answers line.now bytes result (O.contents out.old) (O.contents out.new) }
     ensures front { TakesAtMost 67112960 (I.remaining input.old) (I.remaining input.new) }
