@@ -276,30 +276,6 @@ fn refuse_threads<E: Write>(err: &mut E) -> u8
     }
 }
 
-/// Does what a command line asks for that needs no threads, and refuses any other before it reads.
-fn obey_plain<I: Read, O: Write, E: Write>(
-    alloc: Global,
-    line: &CommandLine,
-    input: &mut I,
-    out: &mut O,
-    err: &mut E,
-) -> u8
-    ensures answers { (bytes : List ℕ) → needs_threads line.now ≡ false → I.remaining input.old ≡ Some bytes → result ≢ 6
-        → Answers line.now bytes result (O.contents out.old) (O.contents out.new) }
-    ensures refuses { needs_threads line.now ≡ true → result ≢ 6
-        → (result ≡ 2) × Keeps (O.contents out.old) (O.contents out.new) }
-    ensures unread { needs_threads line.now ≡ true → Keeps (I.remaining input.old) (I.remaining input.new) }
-    ensures front { TakesAtMost 67112960 (I.remaining input.old) (I.remaining input.new) }
-    ensures quiet { is_quiet result ≡ true → (needs_threads line.now ≡ false)
-        × TellsQuietly (wants_progress line.now) (E.contents err.old) (E.contents err.new) }
-{
-    if needs_threads(line) {
-        refuse_threads(err)
-    } else {
-        obey(&NoThreads, alloc, line, input, out, err)
-    }
-}
-
 /// The whole program: `words` are those of the command line after the program's name. The result is its status:
 /// 0 done, 1 a fault of the input, 2 of the command line, 3 a hart trapped, 4 a rank was stopped by its budget, a full
 /// clock or too many calls, 5 memory or a thread was refused, 6 a read or a write failed. A fault stands as one line on
@@ -366,7 +342,13 @@ pub fn tool_plain<'a, I: Read, O: Write, E: Write>(
         → TellsQuietly (want_progress (plain_meaning_of (map (λ w. w.now) words.entry.now))) (E.contents err.old) (E.contents err.new) }
 {
     match parse(alloc, words) {
-        Ok(line) => obey_plain(alloc, &line, input, out, err),
+        Ok(line) => {
+            if needs_threads(&line) {
+                refuse_threads(err)
+            } else {
+                obey(&NoThreads, alloc, &line, input, out, err)
+            }
+        }
         Err(fault) => show(alloc, words, &fault, out, err),
     }
 }
