@@ -20,12 +20,13 @@ pub struct Communicators {
 
 impl Model for Communicators {
     ghost use Rattle.std.specs.Prelude.{List, ℕ, ◌≤◌, vec_len};
+    ghost use Rattle.rv_image_types.specs.Limits.{comm_numbers};
 
     ghost Value = { List (List ℕ) };
 
     ghost view = { λ comms. comms.lists.items };
 
-    ghost invariant = { λ comms. vec_len comms.lists ≤ 8 };
+    ghost invariant = { λ comms. vec_len comms.lists ≤ comm_numbers };
 }
 
 /// What the image fixes of a rank. No event changes it.
@@ -44,10 +45,11 @@ pub struct Site {
 
 impl Communicators {
     ghost use Rattle.std.specs.Prelude.{◌≤◌};
+    ghost use Rattle.rv_image_types.specs.Limits.{comm_numbers};
 
     /// The vector's communicators, from number 0 on. Takes no memory.
     pub fn from_vec(lists: Vec<Members>) -> Communicators
-        requires { vec_len lists ≤ 8 }
+        requires { vec_len lists ≤ comm_numbers }
         ensures { result ≡ lists.items }
     {
         Communicators { lists }

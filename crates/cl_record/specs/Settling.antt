@@ -1,6 +1,7 @@
 -- What the boxes of all links are left with, by the sides of their ranks.
 use Rattle.std.specs.Prelude.{ℕ, ◌≡◌, ◌≢◌, ◌<◌, ◌≤◌, List, length, map, slice_get, Some}
 use Rattle.rv_image_types.specs.declared.images.Link.{Link}
+use Rattle.rv_image_types.specs.Limits.{most_links}
 use Rattle.part_box.specs.declared.settled.Settled.{Settled}
 use Rattle.part_channel.specs.Channels.{ChannelView, receiver_box, sender_box}
 use Rattle.part_channel.specs.Receiving.{RecvView}
@@ -32,7 +33,7 @@ pub record AreSidesOf (links : List Link) (ends : List Ends) (link : ℕ) (chann
 
 -- each link has a channel, and the ranks have its two sides
 pub record MaySettle (links : List Link) (channels : List ChannelView) (ends : List Ends) : Type 0 where
-  pub few : length links ≤ 32
+  pub few : length links ≤ most_links
   pub one_each : length channels ≡ length links
   pub sides : (link : ℕ) (channel : ChannelView) → slice_get channels link ≡ Some channel
       → AreSidesOf links ends link channel

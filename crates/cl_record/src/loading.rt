@@ -2,6 +2,7 @@
 
 ghost use Rattle.std.specs.Prelude.{◌≡◌, ◌<◌, ◌≤◌, List, [], All, IfOk, OnOk, length, map, vec_len};
 ghost use Rattle.rv_image_types.specs.Image.{IsLink};
+ghost use Rattle.rv_image_types.specs.Limits.{most_ranks};
 ghost use Rattle.part_channel.specs.Channels.{ChannelView};
 ghost use Rattle.cl_state.specs.Rank.{below, loaded};
 ghost use Rattle.cl_state.specs.Room.{rank_of};
@@ -27,7 +28,7 @@ fn load_next<'a>(
     decoded: &RankState,
 ) -> Result<(), AllocError>
     requires plans { HasPlans image.now plans.now }
-    requires few { image.now.ranks ≤ 8 }
+    requires few { image.now.ranks ≤ most_ranks }
     requires joined { All (IsLink image.now.ranks) image.now.links }
     requires there { vec_len seats.old < image.now.ranks }
     requires own { (channels : List ChannelView)
@@ -51,7 +52,7 @@ fn load_each<'a>(
 ) -> Result<(), AllocError>
     requires none { seats.old.items ≡ [] }
     requires plans { HasPlans image.now plans.now }
-    requires few { image.now.ranks ≤ 8 }
+    requires few { image.now.ranks ≤ most_ranks }
     requires joined { All (IsLink image.now.ranks) image.now.links }
     requires count { length ends.items ≡ image.now.ranks }
     requires ends { (channels : List ChannelView) × AreAllNew image.now channels ends.items }
@@ -72,7 +73,7 @@ fn load_as<'a>(
     ends: Vec<Ends>,
 ) -> Result<Vec<Seat<'a>>, AllocError>
     requires plans { HasPlans image.now plans.now }
-    requires few { image.now.ranks ≤ 8 }
+    requires few { image.now.ranks ≤ most_ranks }
     requires joined { All (IsLink image.now.ranks) image.now.links }
     requires count { length ends.items ≡ image.now.ranks }
     requires ends { (channels : List ChannelView) × AreAllNew image.now channels ends.items }
@@ -93,7 +94,7 @@ pub fn load_seats<'a>(
     ends: Vec<Ends>,
 ) -> Result<Vec<Seat<'a>>, AllocError>
     requires plans { HasPlans image.now plans.now }
-    requires few { image.now.ranks ≤ 8 }
+    requires few { image.now.ranks ≤ most_ranks }
     requires joined { All (IsLink image.now.ranks) image.now.links }
     requires count { length ends.items ≡ image.now.ranks }
     requires ends { (channels : List ChannelView) × AreAllNew image.now channels ends.items }

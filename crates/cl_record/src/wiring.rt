@@ -2,6 +2,7 @@
 
 ghost use Rattle.std.specs.Prelude.{◌≡◌, ◌<◌, ◌∷◌, ◌++◌, List, [], IfOk, length};
 ghost use Rattle.rv_image_types.specs.Image.{IsLink};
+ghost use Rattle.rv_image_types.specs.Limits.{most_links};
 ghost use Rattle.cl_record.specs.Wiring.{IsWired};
 
 use part_channel::{Channel, RecvSide, SendSide};
@@ -50,7 +51,7 @@ impl Wiring {
 
     /// One link more: a channel, and a side of it for each of the two ranks.
     fn add(&mut self, alloc: Global, version: ImageVersion, link: Link) -> Result<(), AllocError>
-        requires few { length self.old.channels.items < 32 }
+        requires few { length self.old.channels.items < most_links }
         requires link { IsLink (length self.old.ends.items) link }
         ensures { IfOk result (λ _. (links : List Link)
             → IsWired version (length self.old.ends.items) links self.old

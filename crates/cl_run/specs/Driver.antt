@@ -14,6 +14,7 @@ use Rattle.cl_state.specs.Rank.{Rank, below, loaded}
 use Rattle.rv_image_types.specs.declared.images.ImageParts.{ImageParts}
 use Rattle.rv_image_types.specs.declared.images.Link.{Link}
 use Rattle.rv_image_types.specs.Image.{IsLink}
+use Rattle.rv_image_types.specs.Limits.{most_links}
 use Rattle.cl_state.specs.Room.{rank_of}
 use Rattle.cl_record.specs.BoxKeys.{AgreeOn, HasKeysOf}
 use Rattle.cl_record.specs.Leaving.{HaveRoom, IsRecordOf}
@@ -38,7 +39,7 @@ pub record IsJoined (links : List Link) (channels : List ChannelView) (r : ℕ) 
 
 -- each link joins two seats, and has its channel
 pub record AreJoined (driver : Driver) : Type 0 where
-  pub few : length driver.hub.links ≤ 32
+  pub few : length driver.hub.links ≤ most_links
   pub one_each : length driver.channels.items ≡ length driver.hub.links
   pub links : All (IsLink (length driver.seats.items)) driver.hub.links
   pub each : (r : ℕ) (s : Station) → slice_get (stations driver) r ≡ Some s
@@ -133,7 +134,7 @@ pub record IsDriver (image : ImageParts) (plans : List Plan) (driver : Driver) :
   pub plans_are : AreAt plans driver.seats.items
   pub fresh : AreFresh image driver.channels.items driver.seats.items
   pub channels_are : length driver.channels.items ≡ length image.links
-  pub few_links : length image.links ≤ 32
+  pub few_links : length image.links ≤ most_links
   pub joined : All (IsLink image.ranks) image.links
   pub links_are : driver.hub.links ≡ image.links
   pub no_calls : driver.hub.entries ≡ []

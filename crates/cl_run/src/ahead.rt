@@ -11,9 +11,10 @@ ghost use Rattle.cl_run.specs.Going.{RunsToEnd};
 
 use crate::driver::Driver;
 use crate::looks::has_running;
+use rv_image_types::RANKS_MAX;
 
 /// Of how many ranks, by their numbers, turns are counted that they took ahead of their slots: an image has no more.
-const RANKS: usize = 8;
+const RANKS: usize = RANKS_MAX as usize;
 
 /// Whether a rank took the turn of its slot ahead; then it is ahead by one less.
 #[inline(always)]

@@ -3,6 +3,7 @@
 use cl_rank::{BoxId, RankState};
 use cl_record::Seat;
 use rv_hart::Mode;
+use rv_image_types::{HARTS_MAX, RANKS_MAX};
 
 /// Who is shown each seat behind its slot.
 pub(crate) trait Watch {
@@ -16,12 +17,15 @@ impl Watch for () {
     fn see(&mut self, _seat: Option<&Seat<'_>>, _rank: u8) {}
 }
 
+/// As many places as there are harts of all ranks.
+const PLACES: usize = RANKS_MAX as usize * HARTS_MAX as usize;
+
 /// The box that each hart of each rank asked when it was seen last, and whether anything changed of late. A hart that
 /// waits asks the same box again until it gets something there. So where each hart waits before and behind its turn, and
 /// asks the box that it asked the time before, nothing has changed since.
 #[derive(Drop)]
 pub(crate) struct Looks {
-    boxes: [Option<BoxId>; 32],
+    boxes: [Option<BoxId>; PLACES],
     changed: bool,
 }
 
@@ -57,7 +61,7 @@ impl Looks {
     /// Nothing was seen yet.
     pub(crate) fn new() -> Looks {
         Looks {
-            boxes: [None; 32],
+            boxes: [None; PLACES],
             changed: false,
         }
     }
@@ -71,7 +75,7 @@ impl Looks {
 
     /// Notes the box that a hart of a rank asked.
     fn note(&mut self, rank: u8, hart: u8, asked: Option<BoxId>) {
-        let place = 4 * (rank % 8) + hart % 4;
+        let place = HARTS_MAX * (rank % RANKS_MAX) + hart % HARTS_MAX;
         if let Some(last) = self.boxes.get_mut(usize::from(place)) {
             if !is_same(*last, asked) {
                 self.changed = true;

@@ -4,6 +4,7 @@ ghost use Rattle.std.specs.Prelude.{◌≡◌, ◌≤◌, ◌*◌, ◌++◌, ◌
 ghost use Rattle.mp_request.specs.Table.{no_requests};
 ghost use Rattle.part_phase.specs.Phases.{first_phases};
 ghost use Rattle.rv_image_types.specs.Image.{IsImage};
+ghost use Rattle.rv_image_types.specs.Limits.{most_comms, memory_page};
 ghost use Rattle.rv_memory.specs.Memory.{loaded_memory};
 ghost use Rattle.cl_state.specs.Rank.{below, loaded, site_of, start_harts};
 
@@ -39,7 +40,7 @@ fn add_comms(alloc: Global, lists: &mut Vec<Members>, comms: &[Members]) -> Resu
 }
 
 fn all_comms(alloc: Global, ranks: u8, comms: &Comms) -> Result<Communicators, AllocError>
-    requires { length comms.now ≤ 7 }
+    requires { length comms.now ≤ most_comms }
     ensures { IfOk result (λ all. all ≡ below ranks ∷ comms.now) }
 {
     let mut lists = Vec::new(alloc);
@@ -49,7 +50,7 @@ fn all_comms(alloc: Global, ranks: u8, comms: &Comms) -> Result<Communicators, A
 }
 
 fn all_harts(alloc: Global, parts: &ImageParts, rank: u8) -> Result<Vec<Hart>, AllocError>
-    requires { 4096 * parts.now.harts ≤ parts.now.memory }
+    requires { memory_page * parts.now.harts ≤ parts.now.memory }
     ensures harts { IfOk result (λ harts. harts.items ≡ start_harts parts.now rank parts.now.harts) }
     ensures count { IfOk result (λ harts. vec_len harts ≡ parts.now.harts) }
 {

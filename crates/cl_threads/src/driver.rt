@@ -2,6 +2,7 @@
 
 ghost use Rattle.std.specs.Prelude.{◌≡◌, ◌≤◌, ◌⊎◌, IfErr, IfOk, length};
 ghost use Rattle.std.specs.VecDeque.{deque_capacity};
+ghost use Rattle.rv_image_types.specs.Limits.{most_ranks};
 ghost use Rattle.cl_threads.specs.OnThreads.{AreDone, AreSeated, IsDone, IsReady};
 
 use crate::gates::{Gate, Passage};
@@ -115,7 +116,7 @@ pub(crate) fn run_all<'e, 'p: 'e, R: Threads + Wait + Sync, G: Gate>(
     seats: VecDeque<Seat<'p>>,
     done: VecDeque<Done>,
 ) -> Result<VecDeque<Done>, RunFault>
-    requires few { length seats.items ≤ 8 }
+    requires few { length seats.items ≤ most_ranks }
     requires seated { AreSeated channels.now seats.items (length seats.items) done.items (deque_capacity done) }
     ensures done { IfOk result (λ all. AreDone until channels.now seats.entry.items all.items) }
     ensures fault { IfErr result (λ fault. (fault ≡ RunFault.Memory) ⊎ (fault ≡ RunFault.Spawn)) }

@@ -1,13 +1,15 @@
 //! A gate that keeps ranks together.
 
 ghost use Rattle.std.specs.Prelude.{◌≡◌, ◌<◌, ◌≤◌, ◌^◌, ◌⊎◌, None, min};
+ghost use Rattle.rv_image_types.specs.Limits.{most_ranks};
 ghost use Rattle.cl_threads.specs.Pacing.{MayTake};
 
 use crate::gates::{Gate, Point};
 use crate::roll::Roll;
-use crate::sights::{RANKS, Sight, Slowest};
+use crate::sights::{Sight, Slowest};
 use crossbeam_utils::CachePadded;
 use once_cell::race::OnceBool;
+use rv_image_types::RANKS_MAX;
 use std::hint::spin_loop;
 use std::sync::atomic::{AtomicU64, Ordering};
 use std::thread::yield_now;
@@ -75,20 +77,20 @@ pub struct Pace {
     /// How long a rank that is held rests between two looks: far shorter than the others take for `lead` turns.
     rest: u64,
     /// Each rank's, in cache lines of its own, so that a turn of one doesn't slow down the others.
-    runners: [CachePadded<Runner>; 8],
+    runners: [CachePadded<Runner>; RANKS_MAX as usize],
     /// Once all of them look in vain it holds nobody any more.
     roll: Roll,
-    ghost few: { ranks ≤ 8 },
+    ghost few: { ranks ≤ most_ranks },
 }
 
 impl Pace {
     /// For the ranks below this number, or for 8 where it is more. A lead of 2^64 - 1 turns holds nobody.
     pub fn new(ranks: u8, lead: u64) -> Pace
-        ensures ranks { result.ranks ≡ min ranks 8 }
+        ensures ranks { result.ranks ≡ min ranks most_ranks }
         ensures lead { result.lead ≡ lead }
     {
         Pace {
-            ranks: ranks.min(RANKS),
+            ranks: ranks.min(RANKS_MAX),
             lead,
             stride: (lead / 2).clamp(1, MOST),
             rest: (lead / 64).clamp(1, MOST),
@@ -109,7 +111,7 @@ impl Pace {
     /// How many turns another rank came to, as it told last: None of the rank itself, of one that isn't held, and of one
     /// that takes no turn any more.
     fn seen(&self, rank: u8, other: u8) -> Option<u64>
-        requires { other < 8 }
+        requires { other < most_ranks }
         ensures { (other ≡ rank) ⊎ (self.now.ranks ≤ other) → result ≡ None }
     {
         let runner = &self.runners[usize::from(other)];

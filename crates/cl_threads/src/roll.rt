@@ -1,10 +1,11 @@
 //! The roll of ranks that look in vain.
 
 ghost use Rattle.std.specs.Prelude.{◌≡◌, ◌≤◌, min};
+ghost use Rattle.rv_image_types.specs.Limits.{most_ranks};
 
-use crate::sights::RANKS;
 use crossbeam_utils::CachePadded;
 use once_cell::race::OnceBool;
+use rv_image_types::RANKS_MAX;
 use std::sync::atomic::{AtomicU64, Ordering};
 use std::sync::{Mutex, MutexGuard, Wait};
 
@@ -44,23 +45,23 @@ pub struct Roll {
     /// The number of the last call, from 1.
     call: AtomicU64,
     /// Each rank's, in cache lines of its own.
-    answers: [CachePadded<Answer>; 8],
+    answers: [CachePadded<Answer>; RANKS_MAX as usize],
     /// Whether all ranks answered the same call.
     over: OnceBool,
     /// Whether a rank had left by then that has a hart which isn't stopped.
     cut: OnceBool,
     /// Whose turns are used up now, once it is over.
     place: Mutex<()>,
-    ghost few: { ranks ≤ 8 },
+    ghost few: { ranks ≤ most_ranks },
 }
 
 impl Roll {
     /// Of the ranks below this number, or of 8 where it is more.
     pub(crate) fn new(ranks: u8) -> Roll
-        ensures { result.ranks ≡ min ranks 8 }
+        ensures { result.ranks ≡ min ranks most_ranks }
     {
         Roll {
-            ranks: ranks.min(RANKS),
+            ranks: ranks.min(RANKS_MAX),
             call: AtomicU64::new(1),
             answers: [
                 Answer::new(),

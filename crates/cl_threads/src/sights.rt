@@ -1,10 +1,10 @@
 //! What a rank sees of the others that are kept together with it.
 
 ghost use Rattle.std.specs.Prelude.{◌≡◌, ◌↔◌, ◌+◌, ◌<◌, ◌≤◌, ◌^◌, ℕ, IfSome, List, Option, length, slice_get};
+ghost use Rattle.rv_image_types.specs.Limits.{most_ranks};
 ghost use Rattle.cl_threads.specs.Pacing.{IsSlowest, MayTake};
 
-/// The most ranks that there are.
-pub(crate) const RANKS: u8 = 8;
+use rv_image_types::RANKS_MAX;
 
 /// The slowest of the ranks that were seen.
 #[derive(Clone, Copy, PartialEq, Eq, Drop)]
@@ -18,19 +18,19 @@ pub(crate) struct Slowest {
 /// takes no turn any more.
 #[derive(Clone, Copy, Drop)]
 pub(crate) struct Sight {
-    pub counts: [Option<u64>; 8],
-    pub ghost whole: { length counts ≡ 8 },
+    pub counts: [Option<u64>; RANKS_MAX as usize],
+    pub ghost whole: { length counts ≡ most_ranks },
 }
 
 impl Sight {
     #[tactic(auto, using(crate::proofs::Paced::slowest_low))]
     /// The slowest of the ranks that were seen, the first of them where several are; None where none was seen.
     pub(crate) fn slowest(&self) -> Option<Slowest>
-        ensures slowest { IsSlowest self.now.counts 8 result }
-        ensures low { IfSome result (λ slowest. slowest.rank < 8) }
+        ensures slowest { IsSlowest self.now.counts most_ranks result }
+        ensures low { IfSome result (λ slowest. slowest.rank < most_ranks) }
     {
         let mut slowest = None;
-        for rank in 0..RANKS {
+        for rank in 0..RANKS_MAX {
             slowest = slower(slowest, rank, self.counts[usize::from(rank)]);
         }
         slowest

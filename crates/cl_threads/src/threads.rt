@@ -1,6 +1,7 @@
 //! All ranks, each on a thread of its own.
 
 ghost use Rattle.std.specs.Prelude.{◌≡◌, ◌↔◌, ◌≤◌, Err, IfErr, IfOk, OnOk, false, length, map, true};
+ghost use Rattle.rv_image_types.specs.Limits.{most_ranks};
 ghost use Rattle.cl_arrival_laws.specs.Runs.{IsArrivedRun};
 ghost use Rattle.cl_journal.specs.Replaying.{Replays};
 ghost use Rattle.cl_record.specs.Plans.{HasPlans};
@@ -42,7 +43,7 @@ fn gather(
 ) -> Result<Record, RunFault>
     requires settle { MaySettle image.now.links channels.items (map ends_of done.items) }
     requires room { HaveRoom (length done.items) (length image.now.links) lists }
-    requires few { length done.items ≤ 8 }
+    requires few { length done.items ≤ most_ranks }
     ensures links { OnOk result (hub.links ≡ image.now.links) }
     ensures replays { OnOk result (Replays hub) }
     ensures left { IfOk result (IsRecordOf image.now.links channels.items hub.entries done.items) }

@@ -1,6 +1,7 @@
 //! The sides of partitioned transfers, as ranks initialise them.
 
 ghost use Rattle.std.specs.Prelude.{◌≡◌, ◌==◌, ◌≤◌, ◌+◌, length, filter, slice_get};
+ghost use Rattle.rv_image_types.specs.Limits.{most_links};
 ghost use Rattle.mp_transfers.specs.Inits.{is_for, is_other_side, is_receiver, is_reserved, is_same_side, lowest_link};
 ghost use Rattle.mp_transfers.specs.Inits.{peer_of, same_total, same_transfer, sender_over, total_bytes};
 
@@ -119,7 +120,7 @@ fn has_link(sides: &[Side], link: u8) -> bool
 
 /// The lowest link that joins the two ranks and that no side has.
 pub fn find_link(links: &[Link], sides: &[Side], new: Setup) -> Option<u8>
-    requires { length links.now ≤ 32 }
+    requires { length links.now ≤ most_links }
     ensures { result ≡ lowest_link links.now sides.now new }
 {
     let mut rest = links;

@@ -4,6 +4,7 @@ use Rattle.std.specs.Prelude.{nat_le}
 use Rattle.rv_image_types.specs.declared.images.Symbol.{Symbol}
 use Rattle.rv_image_types.specs.Image.{IsCommunicator, IsLink, IsSymbol, data_start, symbol_names}
 use Rattle.rv_image_types.specs.Names.{RisingNames, is_symbol_name}
+use Rattle.rv_image_types.specs.Limits.{most_comms, most_links}
 use Rattle.rv_asm_tokens.specs.declared.fault.AsmFault.{AsmFault}
 use Rattle.rv_asm_tokens.specs.declared.fault.AsmFaultKind.{AsmFaultKind}
 use Rattle.rv_asm_tokens.specs.declared.fault.AsmFaultKind.TheVariants as kinds
@@ -32,9 +33,9 @@ EntryIn text (Some at) = (at < length text) × (at % 4 ≡ 0)
 pub record IsWhole (ranks : ℕ) (o : Output) (named : List Symbol) : Type 0 where
   pub whole_words : length o.text % 4 ≡ 0
   pub entry_in : EntryIn o.text o.entry
-  pub few_comms : length o.comms ≤ 7
+  pub few_comms : length o.comms ≤ most_comms
   pub comms : All (IsCommunicator ranks) o.comms
-  pub few_links : length o.links ≤ 32
+  pub few_links : length o.links ≤ most_links
   pub links : All (IsLink ranks) o.links
   pub few_symbols : length named ≤ most_globals
   pub symbols : All (IsSymbol (data_start (length o.text) + length o.init)) named

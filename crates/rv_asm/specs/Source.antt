@@ -5,6 +5,7 @@ use Rattle.rv_image_types.specs.declared.images.ImageParts.{ImageParts}
 use Rattle.rv_image_types.specs.declared.images.ImageVersion.TheVariants.{Two}
 use Rattle.rv_image_types.specs.declared.images.Symbol.{Symbol}
 use Rattle.rv_image_types.specs.Image.{data_start}
+use Rattle.rv_image_types.specs.Limits.{memory_page}
 use Rattle.rv_asm_tokens.specs.declared.fault.AsmFault.{AsmFault}
 use Rattle.rv_asm_tokens.specs.declared.fault.AsmFaultKind.{AsmFaultKind}
 use Rattle.rv_asm_tokens.specs.declared.fault.AsmFaultKind.TheVariants as kinds
@@ -40,7 +41,7 @@ parts_of f o symbols = record {
 -- harts, text and data fit the memory
 abbrev pub fits_memory : ImageParts → Bool
 fits_memory p =
-    nat_le (4096 * p.harts) p.memory
+    nat_le (memory_page * p.harts) p.memory
     && (nat_le (length p.text) p.memory && nat_le (data_start (length p.text) + length p.init) p.memory)
 
 -- what is tested of the whole

@@ -17,6 +17,7 @@ ghost use Rattle.rv_asm_lines.specs.Output.{items_from, empty_output};
 ghost use Rattle.rv_asm_lines.specs.OutputView.{output_view};
 ghost use Rattle.rv_asm_lines.specs.Places.{AreSound, HoldCode};
 ghost use Rattle.rv_image_types.specs.declared.images.Symbol.{Symbol};
+ghost use Rattle.rv_image_types.specs.Limits.{most_harts, memory_page};
 ghost use Rattle.rv_asm.specs.Source.{finished, fits_memory, meaning, parts_of};
 ghost use Rattle.rv_asm.specs.Made.{FailsAt, IsWhole};
 
@@ -28,7 +29,9 @@ use rv_asm_lines::{
 };
 use rv_asm_statements::{Statement, Width, long_data, parse_statement};
 use rv_asm_tokens::{AsmFault, AsmFaultKind, Tokens};
-use rv_image_types::{Comms, Image, ImageParts, ImageVersion, Links, Segment, Symbols};
+use rv_image_types::{
+    Comms, Image, ImageParts, ImageVersion, Links, MEMORY_MAX, PAGE, Segment, Symbols,
+};
 use std::alloc::{AllocError, Global};
 use std::collections::BTreeSet;
 
@@ -58,7 +61,7 @@ fn admit(
     }
     take_fields(fields, statement)?;
     let end = u128::from(place.at) + length_of_statement(place.at, statement);
-    if end > 1_048_576 {
+    if end > u128::from(MEMORY_MAX) {
         return Err(AsmFaultKind::Limit);
     }
     take_global(alloc, globals, statement)?;
@@ -129,7 +132,7 @@ fn too_long(part: Part, width: Width) -> AsmFaultKind
 }
 
 /// The most items that a part can hold.
-const MOST_ITEMS: u32 = 1_048_576;
+const MOST_ITEMS: u32 = MEMORY_MAX;
 
 /// Adds the statement behind a line's labels. Data that no part can hold is refused before memory is asked for it.
 #[tactic(auto, using(crate::proofs::LongLines::long_fails))]
@@ -250,11 +253,11 @@ fn make_output(alloc: Global, layout: &Layout<'_>) -> Result<Output, AsmFault>
 
 /// Whether harts, text and data fit the memory.
 fn fits(harts: u32, memory: u32, text: usize, init: usize) -> bool
-    requires { harts ≤ 4 }
+    requires { harts ≤ most_harts }
     ensures { result
-        ≡ (nat_le (4096 * harts) memory && (nat_le text memory && nat_le (data_start text + init) memory)) }
+        ≡ (nat_le (memory_page * harts) memory && (nat_le text memory && nat_le (data_start text + init) memory)) }
 {
-    if 4_096 * harts > memory || text as u64 > u64::from(memory) {
+    if PAGE * harts > memory || text as u64 > u64::from(memory) {
         return false;
     }
     let start = (text as u64 + 15) / 16 * 16;

@@ -3,6 +3,7 @@ use Rattle.std.specs.Prelude.{ℕ, ◌-◌, ◌*◌, ◌^◌, ℤ, pos, negsuc, 
 use Rattle.std.specs.Prelude.{Result, Ok, Err, if◌then◌else◌}
 use Rattle.std.specs.Int.{w128, to_le_bytes, cast_unsigned}
 use Rattle.rv_image_types.specs.declared.images.Link.{Link}
+use Rattle.rv_image_types.specs.Limits.{most_ranks}
 use Rattle.rv_image.specs.Reading.{is_within, is_new_rank}
 use Rattle.rv_asm_tokens.specs.declared.fault.AsmFaultKind.{AsmFaultKind}
 use Rattle.rv_asm_tokens.specs.declared.fault.AsmFaultKind.TheVariants as kinds
@@ -57,7 +58,7 @@ members_from ranks named (z ∷ zs) = new_rank ranks named z >>= λ rank. member
 
 -- a communicator: 1 to 8 ranks
 unfoldable pub members_of : ℕ → List ℤ → Result (List ℕ) AsmFaultKind
-members_of ranks zs = if is_within 1 8 (length zs) then members_from ranks [] zs else Err kinds.Directive
+members_of ranks zs = if is_within 1 most_ranks (length zs) then members_from ranks [] zs else Err kinds.Directive
 
 -- a link: two ranks, one not the other
 unfoldable pub link_between : ℕ → ℤ → ℤ → Result Link AsmFaultKind

@@ -1,6 +1,7 @@
 -- What a source says of the whole image, each thing once; and how many communicators and links it has.
 use Rattle.std.specs.Prelude.{ℕ, ◌+◌, true, false, Option, Some, None, Result, Ok, Err, nat_lt, unwrap_or}
 use Rattle.std.specs.Prelude.{if◌then◌else◌}
+use Rattle.rv_image_types.specs.Limits.{most_comms, most_links}
 use Rattle.rv_asm_tokens.specs.declared.fault.AsmFaultKind.{AsmFaultKind}
 use Rattle.rv_asm_tokens.specs.declared.fault.AsmFaultKind.TheVariants as kinds
 use Rattle.rv_asm_tokens.specs.Fault.{◌>>=◌}
@@ -38,8 +39,8 @@ fields_after (directive.Ranks n) f = once f.ranks n >>= λ x. Ok (record f { ran
 fields_after (directive.Harts n) f = once f.harts n >>= λ x. Ok (record f { harts = x })
 fields_after (directive.Memory n) f = once f.memory n >>= λ x. Ok (record f { memory = x })
 fields_after (directive.Entry w) f = if f.has_entry then Err kinds.Directive else Ok (record f { has_entry = true })
-fields_after (directive.Comm ranks) f = counted_on 7 f.comms >>= λ n. Ok (record f { comms = n })
-fields_after (directive.Link from to) f = counted_on 32 f.links >>= λ n. Ok (record f { links = n })
+fields_after (directive.Comm ranks) f = counted_on most_comms f.comms >>= λ n. Ok (record f { comms = n })
+fields_after (directive.Link from to) f = counted_on most_links f.links >>= λ n. Ok (record f { links = n })
 fields_after _ f = Ok f
 
 -- the fields behind a statement

@@ -7,6 +7,7 @@ use Rattle.std.specs.Option.{option_map}
 use Rattle.std.specs.Ordering.{nat_cmp}
 use Rattle.std.specs.Str.{bytes_eq}
 use Rattle.rv_image_types.specs.declared.images.Symbol.{Symbol}
+use Rattle.rv_image_types.specs.Limits.{most_symbols_in_two}
 use Rattle.rv_asm_tokens.specs.declared.fault.AsmFaultKind.{AsmFaultKind}
 use Rattle.rv_asm_tokens.specs.declared.fault.AsmFaultKind.TheVariants as kinds
 use Rattle.rv_asm_tokens.specs.Fault.{if_some}
@@ -27,7 +28,7 @@ global_of _ = None
 
 -- no source gives more names
 abbrev pub most_globals : ℕ
-most_globals = 1024
+most_globals = most_symbols_in_two
 
 abbrev pub is_global : List ℕ → List (List ℕ) → Bool
 is_global w names = list_any (bytes_eq w) names

@@ -3,6 +3,7 @@ use Rattle.std.specs.Prelude.{ℕ, ◌+◌, List, [], ◌∷◌, ◌++◌, map, 
 use Rattle.std.specs.Prelude.{if◌then◌else◌}
 use Rattle.std.specs.Str.{bytes_eq}
 use Rattle.std.specs.Str.Lines.{lines}
+use Rattle.rv_image_types.specs.Limits.{most_memory_bytes}
 use Rattle.rv_asm_tokens.specs.declared.fault.AsmFault.{AsmFault}
 use Rattle.rv_asm_tokens.specs.declared.fault.AsmFaultKind.{AsmFaultKind}
 use Rattle.rv_asm_tokens.specs.declared.fault.AsmFaultKind.TheVariants as kinds
@@ -63,7 +64,7 @@ place_in w (l ∷ ls) = if bytes_eq w l.0 then Some l.1 else place_in w ls
 
 -- no part is longer
 abbrev pub most_bytes : ℕ
-most_bytes = 1048576
+most_bytes = most_memory_bytes
 
 -- how many bytes are added to a part, where they stand in another or in it
 abbrev pub added : Part → Part → ℕ → ℕ

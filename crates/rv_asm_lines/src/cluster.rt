@@ -8,7 +8,7 @@ ghost use Rattle.rv_asm_lines.specs.Data.{link_between as link_meant};
 
 use rv_asm_statements::Integer;
 use rv_asm_tokens::AsmFaultKind;
-use rv_image_types::Link;
+use rv_image_types::{Link, RANKS_MAX};
 use std::alloc::Global;
 
 /// A rank of the image that was not named before, else `Directive`.
@@ -31,7 +31,7 @@ fn new_rank(ranks: u8, named: &[u8], number: &Integer) -> Result<u8, AsmFaultKin
 pub fn members_of(alloc: Global, ranks: u8, numbers: &[Integer]) -> Result<Vec<u8>, AsmFaultKind>
     ensures { Gives (λ members. members.items) result (members_meant ranks numbers.now) }
 {
-    if numbers.is_empty() || numbers.len() > 8 {
+    if numbers.is_empty() || numbers.len() > RANKS_MAX as usize {
         return Err(AsmFaultKind::Directive);
     }
     let mut named = Vec::new(alloc);

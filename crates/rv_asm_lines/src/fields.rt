@@ -1,20 +1,22 @@
 //! What a source says of the whole image, each thing once; and how many communicators and links it has.
 
 ghost use Rattle.std.specs.Prelude.{◌≡◌, ◌≤◌, ◌%◌, MatchResult, Ok, Err};
+ghost use Rattle.rv_image_types.specs.Limits.{most_ranks, most_harts, memory_page, most_memory_bytes};
 ghost use Rattle.rv_asm_tokens.specs.Returned.{Is};
 ghost use Rattle.rv_asm_lines.specs.Fields.{ranks_of as ranks_meant, harts_of as harts_meant};
 ghost use Rattle.rv_asm_lines.specs.Fields.{memory_of as memory_meant, counted_on as counted, fields_after};
 ghost use Rattle.rv_asm_lines.specs.Fields.{fields_behind};
 
-use rv_asm_statements::{Directive, Limited, Statement};
+use rv_asm_statements::{Directive, HartCount, MemorySize, RankCount, Statement};
 use rv_asm_tokens::AsmFaultKind;
+use rv_image_types::{COMMS_MAX, LINKS_MAX};
 
 /// The directives so far that say something of the whole image.
 #[derive(Clone, Copy)]
 pub struct Fields {
-    pub ranks: Option<Limited<1, 8, 1>>,
-    pub harts: Option<Limited<1, 4, 1>>,
-    pub memory: Option<Limited<4_096, 1_048_576, 4_096>>,
+    pub ranks: Option<RankCount>,
+    pub harts: Option<HartCount>,
+    pub memory: Option<MemorySize>,
     /// Whether `.entry` was given.
     pub has_entry: bool,
     /// How many communicators, at most 7.
@@ -37,7 +39,7 @@ pub const NO_FIELDS: Fields = Fields {
 pub fn ranks_of(fields: &Fields) -> u8
     ensures value { result ≡ ranks_meant fields.now }
     ensures least { 1 ≤ result }
-    ensures most { result ≤ 8 }
+    ensures most { result ≤ most_ranks }
 {
     match &fields.ranks {
         None => 1,
@@ -49,7 +51,7 @@ pub fn ranks_of(fields: &Fields) -> u8
 pub fn harts_of(fields: &Fields) -> u8
     ensures value { result ≡ harts_meant fields.now }
     ensures least { 1 ≤ result }
-    ensures most { result ≤ 4 }
+    ensures most { result ≤ most_harts }
 {
     match &fields.harts {
         None => 1,
@@ -60,9 +62,9 @@ pub fn harts_of(fields: &Fields) -> u8
 /// How many bytes of memory each rank has.
 pub fn memory_of(fields: &Fields) -> u32
     ensures value { result ≡ memory_meant fields.now }
-    ensures least { 4096 ≤ result }
-    ensures most { result ≤ 1048576 }
-    ensures pages { result % 4096 ≡ 0 }
+    ensures least { memory_page ≤ result }
+    ensures most { result ≤ most_memory_bytes }
+    ensures pages { result % memory_page ≡ 0 }
 {
     match &fields.memory {
         None => 65_536,
@@ -97,8 +99,8 @@ fn take_directive(fields: &mut Fields, directive: &Directive) -> Result<(), AsmF
         Directive::Harts(harts) => fields.harts = Some(*harts),
         Directive::Memory(memory) => fields.memory = Some(*memory),
         Directive::Entry(_) => fields.has_entry = true,
-        Directive::Comm(_) => fields.comms = one_more(7, fields.comms)?,
-        Directive::Link(_, _) => fields.links = one_more(32, fields.links)?,
+        Directive::Comm(_) => fields.comms = one_more(COMMS_MAX, fields.comms)?,
+        Directive::Link(_, _) => fields.links = one_more(LINKS_MAX, fields.links)?,
         _ => {}
     }
     Ok(())

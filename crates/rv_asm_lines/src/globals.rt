@@ -13,6 +13,7 @@ ghost use Rattle.rv_asm_lines.specs.LayoutView.{names_view};
 
 use rv_asm_statements::{Directive, Statement};
 use rv_asm_tokens::AsmFaultKind;
+use rv_image_types::SYMBOLS_MAX;
 use std::alloc::{AllocError, Global};
 use std::collections::BTreeSet;
 
@@ -40,7 +41,7 @@ fn add_global(
     if globals.contains(name) {
         return Ok(());
     }
-    if globals.len() >= 1_024 {
+    if globals.len() >= SYMBOLS_MAX as usize {
         return Err(AsmFaultKind::Limit);
     }
     put_global(alloc, globals, name)?;

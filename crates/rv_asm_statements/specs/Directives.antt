@@ -4,6 +4,7 @@ use Rattle.std.specs.Prelude.{if◌then◌else◌}
 use Rattle.std.specs.Option.{option_map}
 use Rattle.std.specs.Ordering.{int_eq}
 use Rattle.rv_image_types.specs.Names.{is_symbol_name}
+use Rattle.rv_image_types.specs.Limits.{most_ranks, most_harts, memory_page, most_memory_bytes}
 use Rattle.rv_asm_tokens.specs.declared.fault.AsmFaultKind.{AsmFaultKind}
 use Rattle.rv_asm_tokens.specs.declared.fault.AsmFaultKind.TheVariants as kinds
 use Rattle.rv_asm_tokens.specs.Fault.{if_some, wanted}
@@ -108,10 +109,10 @@ link_of _ = None
 
 -- what a directive is with these operands, if it takes them
 unfoldable pub directive_by : Form → List Argument → Option Directive
-directive_by Ranks xs = option_map directive.Ranks (limited_number 1 8 1 xs)
-directive_by Harts xs = option_map directive.Harts (limited_number 1 4 1 xs)
-directive_by Memory xs = option_map directive.Memory (limited_number 4096 1048576 4096 xs)
-directive_by Zero xs = option_map directive.Zero (limited_number 0 1048576 1 xs)
+directive_by Ranks xs = option_map directive.Ranks (limited_number 1 most_ranks 1 xs)
+directive_by Harts xs = option_map directive.Harts (limited_number 1 most_harts 1 xs)
+directive_by Memory xs = option_map directive.Memory (limited_number memory_page most_memory_bytes memory_page xs)
+directive_by Zero xs = option_map directive.Zero (limited_number 0 most_memory_bytes 1 xs)
 directive_by Align xs = option_map directive.Align (only_alignment xs)
 directive_by Entry xs = option_map directive.Entry (only_name xs)
 directive_by Global xs = option_map directive.Global (only_symbol xs)

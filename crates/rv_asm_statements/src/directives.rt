@@ -3,6 +3,7 @@
 use crate::data_lists::{Bytes, Integers, Items};
 use crate::limited::Limited;
 use crate::values::{Integer, Label};
+use rv_image_types::{HARTS_MAX, MEMORY_MAX, PAGE, RANKS_MAX};
 
 /// How many bytes an item of data takes: 1, 2, 4 or 8.
 #[derive(Clone, Copy)]
@@ -23,15 +24,31 @@ pub enum Alignment {
     Sixteen,
 }
 
+const RANKS: u32 = RANKS_MAX as u32;
+
+const HARTS: u32 = HARTS_MAX as u32;
+
+/// How many ranks an image has.
+pub type RankCount = Limited<1, RANKS, 1>;
+
+/// How many harts each rank has.
+pub type HartCount = Limited<1, HARTS, 1>;
+
+/// How many bytes of memory each rank has.
+pub type MemorySize = Limited<PAGE, MEMORY_MAX, PAGE>;
+
+/// How many zero bytes stand in one place: as many as fit the largest memory.
+pub type ZeroCount = Limited<0, MEMORY_MAX, 1>;
+
 /// A directive with its operands, whose numbers keep the limits of the line.
 #[derive(Drop)]
 pub enum Directive {
     /// `.ranks n`
-    Ranks(Limited<1, 8, 1>),
+    Ranks(RankCount),
     /// `.harts n`
-    Harts(Limited<1, 4, 1>),
+    Harts(HartCount),
     /// `.memory n`, in bytes.
-    Memory(Limited<4_096, 1_048_576, 4_096>),
+    Memory(MemorySize),
     /// `.entry label`
     Entry(Label),
     /// `.comm r, r, ..`: one rank or more.
@@ -47,7 +64,7 @@ pub enum Directive {
     /// `.ascii` and `.asciz`
     Bytes(Bytes),
     /// `.zero n`: so many zero bytes.
-    Zero(Limited<0, 1_048_576, 1>),
+    Zero(ZeroCount),
     /// `.balign n`: zero bytes to a multiple of n.
     Align(Alignment),
     /// `.globl name`: a name that a symbol may have, of at most 31 bytes.

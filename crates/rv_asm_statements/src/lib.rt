@@ -21,7 +21,7 @@ mod values;
 pub use data_lists::{Bytes, Integers, Items};
 pub use directive_forms::directive;
 pub use directive_rows::{DirectiveRow, Form};
-pub use directives::{Alignment, Directive, Width};
+pub use directives::{Alignment, Directive, HartCount, MemorySize, RankCount, Width, ZeroCount};
 pub use filled::{Filled, Target};
 pub use limited::Limited;
 pub use mnemonics::{Use, instruction};

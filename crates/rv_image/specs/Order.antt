@@ -9,6 +9,7 @@ use Rattle.rv_image.specs.declared.faults.ImageFault.TheVariants as faults
 use Rattle.rv_image.specs.declared.faults.ImageFault.TheVariants.{Short, Long, Comm}
 use Rattle.rv_image.specs.declared.header.Header.{Header}
 use Rattle.rv_image_types.specs.Names.{is_within, is_symbol_name, name_before}
+use Rattle.rv_image_types.specs.Limits.{most_ranks}
 use Rattle.rv_image.specs.Reading.{byte_at, number_at, header_at, is_new_rank, header_tests, first_fault, reading}
 
 -- Each row is a test: what has to hold, and the fault where it doesn't. Offsets count from the first byte of the image.
@@ -28,7 +29,7 @@ member_tests bytes ranks n first k =
 abbrev pub comm_tests : List ℕ → ℕ → ℕ → ℕ → List (Bool × ImageFault)
 comm_tests bytes ranks n start =
     is_there bytes start
-    ∷ (is_within 1 8 (byte_at start bytes), Comm n)
+    ∷ (is_within 1 most_ranks (byte_at start bytes), Comm n)
     ∷ flat_map (member_tests bytes ranks n (start + 1)) (range_with_len 0 (byte_at start bytes))
 
 -- where a communicator begins that has so many before it; with all of them before, where the links begin

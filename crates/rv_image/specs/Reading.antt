@@ -16,6 +16,7 @@ use Rattle.rv_image_types.specs.declared.images.ImageParts.{ImageParts}
 use Rattle.rv_image_types.specs.Image.{data_start, most_symbols}
 pub use Rattle.rv_image_types.specs.Names.{is_within}
 use Rattle.rv_image_types.specs.Names.{is_symbol_name, name_before}
+use Rattle.rv_image_types.specs.Limits.{most_ranks, most_harts, most_comms, most_links, memory_page, most_memory_bytes}
 
 -- ---- the header
 
@@ -49,11 +50,15 @@ header_at bytes = record {
 -- Tests in their order: what has to hold, and the fault where it doesn't. First those of the numbers' limits.
 abbrev pub limit_tests : Header → List (Bool × ImageFault)
 limit_tests h =
-    (is_within 1 8 h.ranks, Limit 6 h.ranks)
-    ∷ (is_within 1 4 h.harts, Limit 7 h.harts)
-    ∷ (is_within 4096 1048576 h.memory && (h.memory % 4096 == 0 && nat_le (4096 * h.harts) h.memory), Limit 8 h.memory)
-    ∷ (nat_le h.comms 7, Limit 24 h.comms)
-    ∷ (nat_le h.links 32, Limit 25 h.links)
+    (is_within 1 most_ranks h.ranks, Limit 6 h.ranks)
+    ∷ (is_within 1 most_harts h.harts, Limit 7 h.harts)
+    ∷ (
+      is_within memory_page most_memory_bytes h.memory
+          && (h.memory % memory_page == 0 && nat_le (memory_page * h.harts) h.memory),
+      Limit 8 h.memory,
+    )
+    ∷ (nat_le h.comms most_comms, Limit 24 h.comms)
+    ∷ (nat_le h.links most_links, Limit 25 h.links)
     ∷ (nat_le h.symbols (most_symbols h.version), Limit 26 h.symbols)
     ∷ []
 
@@ -122,7 +127,7 @@ next_member total ranks n named bytes = do
 unfoldable pub comm_at : ℕ → ℕ → ℕ → List ℕ → Result (List ℕ × List ℕ) ImageFault
 comm_at total ranks n bytes = do
   count ← next_byte total bytes
-  if is_within 1 8 count.0 then repeated (next_member total ranks n) count.0 [] count.1 else Err (Comm n)
+  if is_within 1 most_ranks count.0 then repeated (next_member total ranks n) count.0 [] count.1 else Err (Comm n)
 
 -- one more communicator; they are numbered from 1
 abbrev pub next_comm : ℕ → ℕ → List (List ℕ) → List ℕ → Result (List (List ℕ) × List ℕ) ImageFault

@@ -14,8 +14,8 @@ ghost use Rattle.rv_image.specs.Reading.{named_at, symbol_at, next_symbol, body_
 use crate::faults::ImageFault;
 use crate::header::{HEADER_LENGTH, Header, header_fault, header_of, u32_at};
 use rv_image_types::{
-    Comms, Image, ImageParts, Link, Links, Members, Segment, Symbol, SymbolName, Symbols,
-    is_symbol_name, name_before,
+    Comms, Image, ImageParts, Link, Links, Members, RANKS_MAX, Segment, Symbol, SymbolName,
+    Symbols, is_symbol_name, name_before,
 };
 use std::alloc::{AllocError, Global};
 
@@ -79,7 +79,7 @@ fn take_comm(total: usize, ranks: u8, n: usize, bytes: &[u8]) -> Result<(&[u8], 
     ensures { GivesBy (λ x. (x.0.now, x.1.now)) result (comm_at total ranks n bytes.now) }
 {
     let (count, rest) = take_byte(total, bytes)?;
-    if count < 1 || count > 8 {
+    if count < 1 || count > RANKS_MAX {
         return Err(ImageFault::Comm(n));
     }
     take_members(total, ranks, n, count, rest)

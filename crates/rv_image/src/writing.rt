@@ -4,6 +4,7 @@ ghost use Rattle.std.specs.Prelude.{◌≡◌, ◌≤◌, ◌++◌, ◌^◌, ◌
 ghost use Rattle.std.specs.Int.{w16, w32, to_le_bytes};
 ghost use Rattle.std.specs.List.{flat_map};
 ghost use Rattle.rv_image_types.specs.Image.{IsImage};
+ghost use Rattle.rv_image_types.specs.Limits.{most_ranks};
 ghost use Rattle.rv_image.specs.Text.{comm_text, link_text, symbol_text, version_number, header_text, body_text, image_text};
 ghost use Rattle.rv_image.specs.Reading.{reading};
 
@@ -77,7 +78,7 @@ fn put_header(out: &mut Vec<u8>, parts: &ImageParts) -> Result<(), AllocError>
 
 /// Adds one communicator.
 fn put_comm(out: &mut Vec<u8>, members: &[u8]) -> Result<(), AllocError>
-    requires { length members.now ≤ 8 }
+    requires { length members.now ≤ most_ranks }
     ensures { OnOk result (out.new.items ≡ out.old.items ++ comm_text members.now) }
 {
     out.push(members.len() as u8)?;
@@ -86,7 +87,7 @@ fn put_comm(out: &mut Vec<u8>, members: &[u8]) -> Result<(), AllocError>
 
 /// Adds the communicators in order.
 fn put_comms(out: &mut Vec<u8>, comms: &[Members]) -> Result<(), AllocError>
-    requires { All (λ members. length members ≤ 8) comms.now }
+    requires { All (λ members. length members ≤ most_ranks) comms.now }
     ensures { OnOk result (out.new.items ≡ out.old.items ++ flat_map comm_text comms.now) }
 {
     for members in comms {

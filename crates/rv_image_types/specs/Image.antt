@@ -6,6 +6,8 @@ use Rattle.rv_image_types.specs.declared.images.ImageVersion.TheVariants.{One, T
 use Rattle.rv_image_types.specs.declared.images.Link.{Link}
 use Rattle.rv_image_types.specs.declared.images.Symbol.{Symbol}
 use Rattle.rv_image_types.specs.declared.images.ImageParts.{ImageParts}
+use Rattle.rv_image_types.specs.Limits.{most_ranks, most_harts, most_comms, most_links, most_symbols_in_two}
+use Rattle.rv_image_types.specs.Limits.{memory_page, most_memory_bytes}
 use Rattle.rv_image_types.specs.Names.{is_symbol_name, RisingNames}
 
 -- where the initial data begins: the text's length rounded up to a multiple of 16
@@ -15,7 +17,7 @@ data_start text_length = (text_length + 15) / 16 * 16
 -- a communicator: 1 to 8 ranks of the image, none twice
 pub record IsCommunicator (ranks : ℕ) (members : List ℕ) : Type 0 where
   pub has_members : 1 ≤ length members
-  pub few_members : length members ≤ 8
+  pub few_members : length members ≤ most_ranks
   pub ranks_there : All (λ rank. rank < ranks) members
   pub distinct : IsDistinct nat_eq members
 
@@ -33,7 +35,7 @@ pub record IsSymbol (memory : ℕ) (symbol : Symbol) : Type 0 where
 -- how many symbols an image may have: version 1 has no place for them
 abbrev pub most_symbols : ImageVersion → ℕ
 most_symbols One = 0
-most_symbols Two = 1024
+most_symbols Two = most_symbols_in_two
 
 -- the symbols' names, in order
 abbrev pub symbol_names : List Symbol → List (List ℕ)
@@ -42,22 +44,22 @@ symbol_names symbols = map (λ symbol. symbol.name) symbols
 -- parts of which an image is made
 pub record IsImage (image : ImageParts) : Type 0 where
   pub has_ranks : 1 ≤ image.ranks
-  pub few_ranks : image.ranks ≤ 8
+  pub few_ranks : image.ranks ≤ most_ranks
   pub has_harts : 1 ≤ image.harts
-  pub few_harts : image.harts ≤ 4
-  pub least_memory : 4096 ≤ image.memory
-  pub most_memory : image.memory ≤ 1048576
-  pub whole_pages : image.memory % 4096 ≡ 0
-  pub stacks_fit : 4096 * image.harts ≤ image.memory
+  pub few_harts : image.harts ≤ most_harts
+  pub least_memory : memory_page ≤ image.memory
+  pub most_memory : image.memory ≤ most_memory_bytes
+  pub whole_pages : image.memory % memory_page ≡ 0
+  pub stacks_fit : memory_page * image.harts ≤ image.memory
   pub has_text : 0 < length image.text
   pub whole_words : length image.text % 4 ≡ 0
   pub text_fits : length image.text ≤ image.memory
   pub init_fits : data_start (length image.text) + length image.init ≤ image.memory
   pub entry_aligned : image.entry % 4 ≡ 0
   pub entry_in_text : image.entry < length image.text
-  pub few_comms : length image.comms ≤ 7
+  pub few_comms : length image.comms ≤ most_comms
   pub comms : All (IsCommunicator image.ranks) image.comms
-  pub few_links : length image.links ≤ 32
+  pub few_links : length image.links ≤ most_links
   pub links : All (IsLink image.ranks) image.links
   pub few_symbols : length image.symbols ≤ most_symbols image.version
   pub symbols : All (IsSymbol image.memory) image.symbols

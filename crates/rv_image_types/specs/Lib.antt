@@ -1,3 +1,4 @@
--- The definitions that contracts cite: what an image is, and the names of its symbols.
+-- The definitions that contracts cite: what an image is, its limits, and the names of its symbols.
+pub mod Limits
 pub mod Names
 pub mod Image

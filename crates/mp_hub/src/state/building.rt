@@ -1,6 +1,7 @@
 //! A hub built anew, from lists of all that is known of it.
 
 ghost use Rattle.std.specs.Prelude.{◌≡◌, ◌≤◌, length, IfOk};
+ghost use Rattle.rv_image_types.specs.Limits.{most_links};
 ghost use Rattle.mp_hub.specs.Building.{board_in, hub_in};
 ghost use Rattle.mp_hub.specs.Held.{AreHeld};
 
@@ -31,7 +32,7 @@ impl HubState {
     /// The hub of these parts, in memory of its own; its messages share their bytes with the parts. Its posts are made
     /// again in their order. The only error is want of memory.
     pub fn of(alloc: Global, parts: &HubParts<'_>) -> Result<HubState, AllocError>
-        requires few { length parts.now.links.now ≤ 32 }
+        requires few { length parts.now.links.now ≤ most_links }
         requires held { AreHeld (board_in parts.now) parts.now.claims.now }
         ensures { IfOk result (λ hub. hub ≡ hub_in parts.now) }
     {
