@@ -2,3 +2,4 @@ pub mod Members
 pub mod Faults
 pub mod Tables
 pub mod Numbers
+pub mod Once

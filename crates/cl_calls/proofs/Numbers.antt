@@ -1,8 +1,8 @@
 -- Each call's number is below the end of the numbers.
-use Rattle.std.proofs.Common.{◌≡◌, ℕ, ◌<◌, ◌==◌, Bool, true, false, List, [], ◌∷◌, Some, is_some, refl, subst, rules, arith}
+use Rattle.std.proofs.Common.{◌≡◌, ℕ, ◌<◌, ◌==◌, Bool, true, false, List, [], ◌∷◌, Some, is_some, refl, ap, subst, rules, arith}
 use Rattle.std.specs.Prelude.{cond, option_map}
 use Rattle.std.specs.List.{find}
-use Rattle.cl_calls.specs.Names.{call_names, is_call_number, name_in, numbers_end}
+use Rattle.cl_calls.specs.Names.{call_names, name_in, numbers_end}
 
 abbrev AreBelow : ℕ → List (ℕ × List ℕ) → Type 0
 AreBelow end [] = Unit {0}
@@ -31,6 +31,5 @@ found_below end number (row ∷ rows) below found =
 names_below : AreBelow numbers_end call_names
 names_below = search (rules, arith)
 
-pub below_end : (number : ℕ) → is_call_number number ≡ true → number < numbers_end
-unfolding is_call_number
-below_end number is = found_below numbers_end number call_names names_below is
+pub below_end : (number : ℕ) (name : List ℕ) → name_in number call_names ≡ Some name → number < numbers_end
+below_end number name found = found_below numbers_end number call_names names_below (ap is_some found)

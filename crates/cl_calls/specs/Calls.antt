@@ -1,5 +1,5 @@
--- The calls: their numbers and their arguments.
-use Rattle.std.specs.Prelude.{ℕ, ◌+◌, ◌-◌, ◌^◌, ◌==◌, if◌then◌else◌, List, [], ◌∷◌}
+-- The calls: their numbers, their names and their arguments.
+use Rattle.std.specs.Prelude.{ℕ, ◌+◌, ◌-◌, ◌^◌, ◌==◌, if◌then◌else◌, List, [], ◌∷◌, codes}
 use Rattle.rv_hart.specs.State.{State, read}
 use Rattle.cl_calls.specs.declared.calls.Call.{Call}
 use Rattle.cl_calls.specs.declared.calls.Call.TheVariants as call
@@ -51,44 +51,53 @@ several_by a = record { array = a 0; count = a 1; statuses = a 2 }
 abbrev pub partitioning_by : (ℕ → ℕ) → Partitioning
 partitioning_by a = record { buffer = a 0; parts = a 1; size = a 2; peer = a 3; tag = a 4; comm = a 5 }
 
--- the call of each number, with its arguments
-abbrev pub call_rows : (ℕ → ℕ) → List (ℕ × Call)
+-- a call's row: its number, which stands in a7, its name, as docs/CALLS.md lists it, and the call with its arguments
+pub record CallRow : Type 0 where
+  pub number : ℕ
+  pub name : List ℕ
+  pub call : Call
+
+abbrev pub call_at : ℕ → List ℕ → Call → CallRow
+call_at number name call = record { number = number; name = name; call = call }
+
+-- the one table of the calls, with the arguments a 0, a 1, ..
+abbrev pub call_rows : (ℕ → ℕ) → List CallRow
 call_rows a =
-    (0, call.Exit (a 0)) ∷
-    (1, call.Put (a 0) (a 1)) ∷
-    (2, call.Rank (a 0)) ∷
-    (3, call.Size (a 0)) ∷
-    (4, call.Hart) ∷
-    (16, call.Send (sending_by a)) ∷
-    (17, call.Ssend (sending_by a)) ∷
-    (18, call.Recv (receiving_by a) (a 5)) ∷
-    (19, call.Isend (sending_by a)) ∷
-    (20, call.Issend (sending_by a)) ∷
-    (21, call.Irecv (receiving_by a)) ∷
-    (22, call.Test (completing_by a)) ∷
-    (23, call.Wait (completing_by a)) ∷
-    (24, call.Iprobe (probing_by a)) ∷
-    (25, call.Probe (probing_by a)) ∷
-    (26, call.Improbe (probing_by a)) ∷
-    (27, call.Mprobe (probing_by a)) ∷
-    (28, call.Imrecv (claimed_by a)) ∷
-    (29, call.Mrecv (claimed_by a) (a 3)) ∷
-    (30, call.SendInit (sending_by a)) ∷
-    (31, call.RecvInit (receiving_by a)) ∷
-    (32, call.Start (a 0)) ∷
-    (33, call.RequestFree (a 0)) ∷
-    (34, call.Testall (several_by a)) ∷
-    (35, call.Waitall (several_by a)) ∷
-    (40, call.PsendInit (partitioning_by a)) ∷
-    (41, call.PrecvInit (partitioning_by a)) ∷
-    (42, call.Pready (a 0) (a 1)) ∷
-    (43, call.Parrived (a 0) (a 1)) ∷
+    call_at 0 (codes "EXIT") (call.Exit (a 0)) ∷
+    call_at 1 (codes "PUT") (call.Put (a 0) (a 1)) ∷
+    call_at 2 (codes "RANK") (call.Rank (a 0)) ∷
+    call_at 3 (codes "SIZE") (call.Size (a 0)) ∷
+    call_at 4 (codes "HART") call.Hart ∷
+    call_at 16 (codes "SEND") (call.Send (sending_by a)) ∷
+    call_at 17 (codes "SSEND") (call.Ssend (sending_by a)) ∷
+    call_at 18 (codes "RECV") (call.Recv (receiving_by a) (a 5)) ∷
+    call_at 19 (codes "ISEND") (call.Isend (sending_by a)) ∷
+    call_at 20 (codes "ISSEND") (call.Issend (sending_by a)) ∷
+    call_at 21 (codes "IRECV") (call.Irecv (receiving_by a)) ∷
+    call_at 22 (codes "TEST") (call.Test (completing_by a)) ∷
+    call_at 23 (codes "WAIT") (call.Wait (completing_by a)) ∷
+    call_at 24 (codes "IPROBE") (call.Iprobe (probing_by a)) ∷
+    call_at 25 (codes "PROBE") (call.Probe (probing_by a)) ∷
+    call_at 26 (codes "IMPROBE") (call.Improbe (probing_by a)) ∷
+    call_at 27 (codes "MPROBE") (call.Mprobe (probing_by a)) ∷
+    call_at 28 (codes "IMRECV") (call.Imrecv (claimed_by a)) ∷
+    call_at 29 (codes "MRECV") (call.Mrecv (claimed_by a) (a 3)) ∷
+    call_at 30 (codes "SEND_INIT") (call.SendInit (sending_by a)) ∷
+    call_at 31 (codes "RECV_INIT") (call.RecvInit (receiving_by a)) ∷
+    call_at 32 (codes "START") (call.Start (a 0)) ∷
+    call_at 33 (codes "REQUEST_FREE") (call.RequestFree (a 0)) ∷
+    call_at 34 (codes "TESTALL") (call.Testall (several_by a)) ∷
+    call_at 35 (codes "WAITALL") (call.Waitall (several_by a)) ∷
+    call_at 40 (codes "PSEND_INIT") (call.PsendInit (partitioning_by a)) ∷
+    call_at 41 (codes "PRECV_INIT") (call.PrecvInit (partitioning_by a)) ∷
+    call_at 42 (codes "PREADY") (call.Pready (a 0) (a 1)) ∷
+    call_at 43 (codes "PARRIVED") (call.Parrived (a 0) (a 1)) ∷
     []
 
--- the row of a number; where there is none, no call
-abbrev pub row_at : ℕ → List (ℕ × Call) → Call
+-- the call in the row of a number; where there is no such row, no call
+abbrev pub row_at : ℕ → List CallRow → Call
 row_at number [] = call.Unknown
-row_at number (row ∷ rows) = if (number == row.0) then row.1 else row_at number rows
+row_at number (row ∷ rows) = if (number == row.number) then row.call else row_at number rows
 
 -- the call that a hart's registers spell: its number stands in a7
 abbrev pub call_named : State → Call

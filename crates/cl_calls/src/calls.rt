@@ -4,6 +4,7 @@ ghost use Rattle.std.specs.Prelude.{◌≡◌, ◌<◌};
 ghost use Rattle.cl_calls.specs.Calls.{argument as argument_of, call_named, claimed_by, completing_by, partitioning_by};
 ghost use Rattle.cl_calls.specs.Calls.{probing_by, receiving_by, sending_by, several_by};
 
+use crate::rows::{RECV, SEND, calls};
 use rv_decode::Reg;
 use rv_hart::Hart;
 
@@ -244,58 +245,21 @@ impl Partitioning {
     }
 }
 
+/// The call whose row has the number that stands in a7, by one match on it.
+macro_rules! call_of {
+    ($hart:ident $($number:tt $name:literal $call:expr;)*) => {
+        match argument($hart, 7) {
+            $($number => $call,)*
+            _ => Call::Unknown,
+        }
+    };
+}
+
 impl Call {
     /// The call that a hart's registers spell.
     pub fn of(hart: &Hart) -> Call
         ensures { result ≡ call_named hart.now }
     {
-        let a0 = argument(hart, 0);
-        match argument(hart, 7) {
-            0 => Call::Exit { code: a0 },
-            1 => Call::Put {
-                buffer: a0,
-                count: argument(hart, 1),
-            },
-            2 => Call::Rank { comm: a0 },
-            3 => Call::Size { comm: a0 },
-            4 => Call::Hart,
-            16 => Call::Send(Sending::of(hart)),
-            17 => Call::Ssend(Sending::of(hart)),
-            18 => Call::Recv {
-                receiving: Receiving::of(hart),
-                status: argument(hart, 5),
-            },
-            19 => Call::Isend(Sending::of(hart)),
-            20 => Call::Issend(Sending::of(hart)),
-            21 => Call::Irecv(Receiving::of(hart)),
-            22 => Call::Test(Completing::of(hart)),
-            23 => Call::Wait(Completing::of(hart)),
-            24 => Call::Iprobe(Probing::of(hart)),
-            25 => Call::Probe(Probing::of(hart)),
-            26 => Call::Improbe(Probing::of(hart)),
-            27 => Call::Mprobe(Probing::of(hart)),
-            28 => Call::Imrecv(Claimed::of(hart)),
-            29 => Call::Mrecv {
-                claimed: Claimed::of(hart),
-                status: argument(hart, 3),
-            },
-            30 => Call::SendInit(Sending::of(hart)),
-            31 => Call::RecvInit(Receiving::of(hart)),
-            32 => Call::Start { handle: a0 },
-            33 => Call::RequestFree { handle: a0 },
-            34 => Call::Testall(Several::of(hart)),
-            35 => Call::Waitall(Several::of(hart)),
-            40 => Call::PsendInit(Partitioning::of(hart)),
-            41 => Call::PrecvInit(Partitioning::of(hart)),
-            42 => Call::Pready {
-                handle: a0,
-                part: argument(hart, 1),
-            },
-            43 => Call::Parrived {
-                handle: a0,
-                part: argument(hart, 1),
-            },
-            _ => Call::Unknown,
-        }
+        calls!(call_of, hart)
     }
 }

@@ -10,6 +10,7 @@ mod checking;
 mod handles;
 mod names;
 mod needs;
+mod rows;
 mod sites;
 
 pub use calls::{
@@ -18,9 +19,7 @@ pub use calls::{
 };
 pub use checking::{Standing, fault, receiving_side, sending_side};
 pub use handles::{Handles, handles_at};
-pub use names::{
-    NUMBERS_END, RECV, SEND, SSEND, call_name, call_number, call_numbers_law, called_number,
-    is_call_number,
-};
+pub use names::{call_name, call_number, call_numbers_law, called_number, is_call_number};
 pub use needs::{Array, Named, Needs, Peer, Range, Region, Statuses, Tag};
+pub use rows::{NUMBERS_END, RECV, SEND};
 pub use sites::{Communicators, Site, position};

@@ -6,20 +6,9 @@ ghost use Rattle.cl_calls.specs.Names.{CallNumbersLaw, call_name as call_name_of
 ghost use Rattle.cl_calls.specs.Names.{is_call_number as is_call_number_of, name_in as name_in_of, number_in as number_in_of};
 ghost use Rattle.cl_calls.specs.Names.{numbers_end, row_view};
 
+use crate::rows::{RECV, SEND, calls};
 use rv_decode::Reg;
 use rv_hart::Hart;
-
-/// The number of a SEND.
-pub const SEND: u64 = 16;
-
-/// The number of an SSEND.
-pub const SSEND: u64 = 17;
-
-/// The number of a RECV.
-pub const RECV: u64 = 18;
-
-/// The numbers of all calls are below this one, which is one more than the greatest of them.
-pub const NUMBERS_END: u64 = 44;
 
 /// A call's number, and its name.
 struct CallName {
@@ -27,50 +16,20 @@ struct CallName {
     name: &'static str,
 }
 
-/// The table of names, one line a call: its number, which stands in a7, and its name.
-macro_rules! calls {
-    ($($number:literal $name:literal;)*) => {
+/// The numbers and the names of the rows. What their calls are is left out, so the word for the hart names nothing.
+macro_rules! numbers_and_names {
+    ($hart:ident $($number:tt $name:literal $call:expr;)*) => {
         [$(CallName { number: $number, name: $name }),*]
     };
 }
 
-static CALLS: [CallName; 29] = calls! {
-    0 "EXIT";
-    1 "PUT";
-    2 "RANK";
-    3 "SIZE";
-    4 "HART";
-    16 "SEND";
-    17 "SSEND";
-    18 "RECV";
-    19 "ISEND";
-    20 "ISSEND";
-    21 "IRECV";
-    22 "TEST";
-    23 "WAIT";
-    24 "IPROBE";
-    25 "PROBE";
-    26 "IMPROBE";
-    27 "MPROBE";
-    28 "IMRECV";
-    29 "MRECV";
-    30 "SEND_INIT";
-    31 "RECV_INIT";
-    32 "START";
-    33 "REQUEST_FREE";
-    34 "TESTALL";
-    35 "WAITALL";
-    40 "PSEND_INIT";
-    41 "PRECV_INIT";
-    42 "PREADY";
-    43 "PARRIVED";
-};
+static CALLS: &[CallName] = &calls!(numbers_and_names, hart);
 
 /// All calls. No other function names the table, since each that does takes long to prove.
 fn all_calls() -> &'static [CallName]
     ensures { map row_view result.now ≡ call_names }
 {
-    &CALLS
+    CALLS
 }
 
 /// The name in the row of a number.
@@ -110,7 +69,7 @@ pub fn call_name(number: u64) -> &'static str
 }
 
 /// Whether a number is a call's.
-#[tactic(auto, unfolding(crate::specs::Names::is_call_number), using(crate::proofs::Numbers::below_end))]
+#[tactic(auto, unfolding(crate::specs::Names::is_call_number))]
 pub fn is_call_number(number: u64) -> bool
     ensures is { result ≡ is_call_number_of number }
     ensures below { IsTrue result → number < numbers_end }
@@ -136,9 +95,9 @@ pub fn called_number(hart: &Hart) -> u64
     hart.get(Reg::new(17))
 }
 
-/// A law: the calls that registers spell and the calls that have names have the same numbers, one by one in order, and
-/// the greatest of them is the one just below NUMBERS_END. The function does nothing.
-#[tactic(auto, unfolding(crate::specs::Names::is_call_number))]
+/// A law: no number and no name stands twice in the table, and the greatest of the numbers is the one just below
+/// NUMBERS_END. The function does nothing.
+#[tactic(auto, using(crate::proofs::Once::names_once, crate::proofs::Once::numbers_once), unfolding(crate::specs::Names::is_call_number))]
 pub fn call_numbers_law()
     ensures { CallNumbersLaw }
 {}
