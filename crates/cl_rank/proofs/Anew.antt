@@ -1,22 +1,27 @@
--- A hart that makes a call anew which waits for one thing: told that it isn't there yet it makes the call anew again, and
+-- A hart that polls a post, or makes a call anew that waits: told that nothing is there yet it asks the same again, and
 -- only the clock of its rank changes.
-use Rattle.std.proofs.Common.{◌≡◌, ℕ, Bool, true, false, Option, Some, None, refl, sym, ap, ◌∙◌, ◌==◌, if◌then◌else◌}
-use Rattle.std.proofs.lemmas.List.{set-get_or}
+use Rattle.std.proofs.Common.{◌≡◌, ◌<◌, ℕ, Bool, true, false, List, [], ◌∷◌, Option, Some, None, Result, Ok, Err, IfOk}
+use Rattle.std.proofs.Common.{refl, sym, ap, subst, ◌∙◌, ◌==◌, if◌then◌else◌, get_or, vec_len}
+use Rattle.std.proofs.lemmas.List.{get_or_read_under, set-get_or}
+use Rattle.std.specs.Result.{result_ok}
 use Rattle.mp_types.specs.declared.replies.Reply.TheVariants as reply
 use Rattle.mp_types.specs.declared.requests.Request.{Request}
 use Rattle.mp_request.specs.Table.{request_at}
 use Rattle.mp_request.specs.declared.entries.OpenRequest.{OpenRequest}
 use Rattle.cl_calls.specs.Calls.{no_rank}
-use Rattle.cl_calls.specs.declared.calls.Call.TheVariants.{Wait, Probe, Mprobe}
+use Rattle.cl_calls.specs.declared.calls.Call.TheVariants.{Wait, Probe, Mprobe, Waitall}
 use Rattle.cl_calls.specs.declared.calls.Completing.{Completing}
+use Rattle.cl_calls.specs.declared.calls.Several.{Several}
 use Rattle.cl_calls.specs.declared.sites.Site.{Site}
-use Rattle.rv_hart.specs.State.{in_mode}
+use Rattle.rv_hart.specs.State.{State, in_mode}
 use Rattle.rv_hart.specs.declared.state.Mode.{Mode}
+use Rattle.rv_hart.specs.declared.state.Mode.TheVariants.{Running as Runs, Waiting, Ended, Trapped}
+use Rattle.rv_hart.specs.declared.state.Wait.TheVariants.{Post, Again}
 use Rattle.cl_state.specs.declared.asking.Answer.TheVariants as answer
 use Rattle.cl_state.specs.declared.asking.Ask.{Ask}
 use Rattle.cl_state.specs.declared.asking.Ask.TheVariants as ask
 use Rattle.cl_state.specs.declared.asking.Doing.{Doing}
-use Rattle.cl_state.specs.declared.asking.Doing.TheVariants.{Go}
+use Rattle.cl_state.specs.declared.asking.Doing.TheVariants.{Go, Poll}
 use Rattle.cl_state.specs.declared.partitions.Awaited.{Awaited}
 use Rattle.cl_state.specs.declared.partitions.Awaited.TheVariants as awaited_word
 use Rattle.cl_state.specs.declared.pending.Manner.TheVariants.{Immediate, Blocking, Polling, Posting}
@@ -25,14 +30,15 @@ use Rattle.cl_state.specs.declared.pending.Pending.TheVariants as pending
 use Rattle.cl_state.specs.declared.row.Row.{Row}
 use Rattle.cl_state.specs.declared.row.Row.TheVariants.{AtOnce, OnReply, OnBox}
 use Rattle.cl_state.specs.declared.state.RankState.{RankState}
-use Rattle.cl_state.specs.Asked.{Part, asked, asked_completing, asked_in, doing, part_of}
+use Rattle.cl_state.specs.Asked.{Part, asked, asked_completing, asked_in, doing, no_hart, part_of}
 use Rattle.cl_state.specs.Partitions.{awaited}
 use Rattle.cl_state.specs.Pending.{asked_pending, pending_of}
 use Rattle.cl_state.specs.Rank.{Rank}
 use Rattle.cl_state.specs.Room.{rank_of}
-use Rattle.cl_state.specs.Table.{completes, row_completing, row_in}
+use Rattle.cl_state.specs.Several.{asked_all}
+use Rattle.cl_state.specs.Table.{completes, gathers, row_completing}
 use Rattle.cl_state.specs.Told.{asking_again, told, told_in, told_row, with_part}
-use Rattle.cl_rank.specs.Anew.{WaitsAnew, waits_for_one}
+use Rattle.cl_rank.specs.Roomy.{AsksAgain, IsAgain, is_anew, repeats}
 use Rattle.cl_rank.specs.Views.{Stays}
 
 -- ---- such a call that asks the hub waits for its reply
@@ -74,30 +80,67 @@ wait_blocks : (part : Part) (c : Completing) (o : Option OpenRequest) (r : Reque
 wait_blocks part c None r hub = completes_blocks c pending.Nothing r hub
 wait_blocks part c (Some q) r hub = waits_block c (awaited part.phases (Some q)) q r hub
 
-one_blocks : (site : Site) (hart : ℕ) (part : Part) (d : Doing) (r : Request) → waits_for_one d ≡ true
-    → asked_in site part.memory part.requests part.phases d ≡ ask.Hub r
-    → Blocks (row_in site hart part.memory part.requests part.phases d)
-one_blocks site hart part (Go (Wait c)) r one hub = wait_blocks part c (request_at part.requests c.handle) r hub
-one_blocks site hart part (Go (Probe p)) r one hub = either_blocks (p.source == no_rank) _ r _ _ tt hub
-one_blocks site hart part (Go (Mprobe p)) r one hub = either_blocks (p.source == no_rank) _ r _ _ tt hub
-one_blocks site hart part _ r one hub = absurd (cc)
+several_block : (s : Several) (posts : List ℕ) (r : Request) → asked_all posts ≡ ask.Hub r → Blocks (gathers Blocking s posts)
+several_block s [] r hub = cc
+several_block s (post ∷ posts) r hub = tt
 
 -- ---- so its rank stays as it is
 
-pub anew_stays : (state : RankState) (hart : ℕ) (d : Doing) (r : Request)
-    → d ≡ doing state.site (part_of (rank_of state) hart) → WaitsAnew state hart d
-    → asked (rank_of state) hart ≡ ask.Hub r → Stays state hart r
+-- such a hart waits
+anew_mode : (m : Mode) → is_anew m ≡ true → m ≡ Waiting Again
+anew_mode (Waiting Again) h = refl
+anew_mode (Waiting (Post post)) h = absurd (cc)
+anew_mode Runs h = absurd (cc)
+anew_mode (Ended code) h = absurd (cc)
+anew_mode (Trapped cause pc) h = absurd (cc)
+
+made_anew : (site : Site) (row : Row) (part : Part) → Blocks row → is_anew part.hart.mode ≡ true
+    → told_row site row (answer.Reply reply.NotYet) part ≡ part
+made_anew site row part blocks anew =
+    again_by site row part blocks
+    ∙ ap (λ (m : Mode). (let x : Part = record part { hart = in_mode part.hart m } in x))
+    (sym (anew_mode part.hart.mode anew))
+
+told_stays : (site : Site) (hart : ℕ) (part : Part) (d : Doing) (r : Request) → repeats part.hart.mode d ≡ true
+    → asked_in site part.memory part.requests part.phases d ≡ ask.Hub r
+    → told_in site hart d (answer.Reply reply.NotYet) part ≡ part
+told_stays site hart part (Poll c post) r again hub = refl
+told_stays site hart part (Go (Wait c)) r again hub =
+    made_anew site _ part (wait_blocks part c (request_at part.requests c.handle) r hub) again
+told_stays site hart part (Go (Probe p)) r again hub =
+    made_anew site _ part (either_blocks (p.source == no_rank) _ r _ _ tt hub) again
+told_stays site hart part (Go (Mprobe p)) r again hub =
+    made_anew site _ part (either_blocks (p.source == no_rank) _ r _ _ tt hub) again
+told_stays site hart part (Go (Waitall s)) r again hub = made_anew site _ part (several_block s _ r hub) again
+told_stays site hart part _ r again hub = absurd (cc)
+
+pub again_stays : (state : RankState) (hart : ℕ) (r : Request) → AsksAgain state hart r → Stays state hart r
 unfolding asked told
-anew_stays state hart d r spelled waits asks =
+again_stays state hart r again =
     let part = part_of (rank_of state) hart in
-    let hub = ap (asked_in state.site part.memory part.requests part.phases) spelled ∙ asks in
-    let tells = again_by state.site (row_in state.site hart part.memory part.requests part.phases d) part
-    (one_blocks state.site hart part d r waits.one hub)
-    ∙ ap (λ (m : Mode). (let x : Part = record part { hart = in_mode part.hart m } in x)) (sym waits.anew) in
     record {
-      asks = asks;
+      asks = again.asks;
       stays = λ stamp. ap (λ x. with_part (rank_of state) hart x stamp)
-          (ap (λ x. told_in state.site hart x (answer.Reply reply.NotYet) part) (sym spelled) ∙ tells)
-          ∙ ap (λ hs. (let r : Rank = record (rank_of state) { harts = hs; clock = stamp } in r))
+          (told_stays state.site hart part (doing state.site part) r again.waits again.asks)
+          ∙ ap (λ hs. (let x : Rank = record (rank_of state) { harts = hs; clock = stamp } in x))
           (set-get_or (rank_of state).harts hart _);
     }
+
+-- ---- what a hart asks again
+
+-- a hart that is read does so
+pub asks_so : (state : RankState) (hart : ℕ) (at : State) (d : Doing) (r : Request) → at ≡ get_or state.harts.items hart at
+    → hart < vec_len state.harts → d ≡ doing state.site (part_of (rank_of state) hart) → repeats at.mode d ≡ true
+    → asked (rank_of state) hart ≡ ask.Hub r → AsksAgain state hart r
+asks_so state hart at d r read there spelled again asks = record {
+  waits = ap (λ (h : State). repeats h.mode (doing state.site (part_of (rank_of state) hart)))
+      (sym (get_or_read_under state.harts.items hart (vec_len state.harts) at no_hart read there state.harts.ok.0))
+      ∙ ap (repeats at.mode) (sym spelled) ∙ again;
+  asks = asks;
+}
+
+-- a copy of the request is kept, if there is one
+pub kept : {E : Type 0} (state : RankState) (hart : ℕ) (r : Request) (copy : Result Request E) → AsksAgain state hart r
+    → IfOk copy (λ x. x ≡ r) → IsAgain state hart (result_ok copy)
+kept state hart r (Ok x) again same = subst (AsksAgain state hart) (sym same) again
+kept state hart r (Err e) again same = tt

@@ -64,7 +64,7 @@ pub record Went (r : Running) (hart stamp : ℕ) (act : Act) (new : RankState) (
   pub moved : Moved (rank_of r.state) (rank_of new) (sides_in r.sends.items r.recvs.items) after stamp act
 
 -- what a rank keeps
-abbrev pub Keeps : RankState → List Event → ℕ → Sides → Option ℕ → Option (List ℕ) → Type 0
+abbrev pub Keeps : RankState → List Event → ℕ → Sides → Option ℕ → Option Request → Type 0
 Keeps new events budget after roomy again = record {
   low : new.clock < 2 ^ 62;
   within : length events ≤ budget;
@@ -75,7 +75,7 @@ Keeps new events budget after roomy again = record {
 }
 
 -- where no poll was in vain there is no room to be kept
-pub no_room : (new : RankState) {roomy : Option ℕ} (again : Option (List ℕ)) → roomy ≡ None → IsRoomy new roomy again
+pub no_room : (new : RankState) {roomy : Option ℕ} (again : Option Request) → roomy ≡ None → IsRoomy new roomy again
 no_room new again none = subst (λ (o : Option ℕ). IsRoomy new o again) (sym none) tt
 
 module _ {r : Running} {hart stamp : ℕ} {act : Act} {new : RankState} {after : Sides}
@@ -86,7 +86,7 @@ module _ {r : Running} {hart stamp : ℕ} {act : Act} {new : RankState} {after :
       let above = stamp_above r.state.clock stamp act went.stamps in
       (omega (arith, above, r.stamped, is), omega (arith, went.low, is))
 
-  pub keeps : {events : List Event} (roomy : Option ℕ) (again : Option (List ℕ)) (e : Event) → length r.trace.events < r.budget → e.stamp ≡ stamp
+  pub keeps : {events : List Event} (roomy : Option ℕ) (again : Option Request) (e : Event) → length r.trace.events < r.budget → e.stamp ≡ stamp
       → events ≡ r.trace.events ++ e ∷ [] → IsRoomy new roomy again → Keeps new events r.budget after roomy again
   keeps {events} roomy again e left is event room =
       let clock : new.clock ≡ stamp =

@@ -4,7 +4,6 @@ pub mod Sides
 pub mod RankSides
 pub mod Facts
 pub mod Roomy
-pub mod Anew
 pub mod Tidings
 pub mod Fitting
 pub mod Follows

@@ -18,7 +18,7 @@ use cl_journal::{CLOCK_MAX, Hub};
 use cl_sides::BoxId;
 use cl_state::RankState;
 use cl_trace::Trace;
-use mp_types::Posts;
+use mp_types::Request;
 use part_channel::{Channel, RecvSide, SendSide};
 use rv_image_types::Image;
 use std::alloc::{AllocError, Global};
@@ -40,8 +40,8 @@ pub struct Rank {
     /// The hart whose poll was just answered that nothing is there yet. The room that its turn wants is made, so that
     /// the next poll needn't work the turn out.
     pub(crate) roomy: Option<u8>,
-    /// The posts for which that hart asks, where its call waits for several requests and is made anew.
-    pub(crate) again: Option<Posts>,
+    /// What that hart asks in its next turn, if it is known.
+    pub(crate) again: Option<Request>,
     ghost low: { state.clock < 2 ^ 62 },
     ghost within: { length trace.events ≤ budget },
     ghost stamped: { last_stamp 0 trace.events ≤ state.clock },

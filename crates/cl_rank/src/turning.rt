@@ -16,10 +16,9 @@ ghost use Rattle.cl_state.specs.Asked.{asked, is_ecall as is_ecall_of};
 ghost use Rattle.cl_state.specs.Room.{rank_of};
 ghost use Rattle.cl_state.specs.Told.{told};
 ghost use Rattle.cl_rank.specs.Follows.{named_link as named_link_in, started_link};
-ghost use Rattle.cl_rank.specs.Anew.{WaitsAnew, waits_for_one as waits_for_one_in};
 ghost use Rattle.cl_rank.specs.QuickReceives.{Fits, MayReceive};
 ghost use Rattle.cl_rank.specs.QuickSends.{MaySend};
-ghost use Rattle.cl_rank.specs.Roomy.{IsAgain, is_anew as is_anew_in};
+ghost use Rattle.cl_rank.specs.Roomy.{IsAgain, is_anew as is_anew_in, repeats as repeats_in};
 ghost use Rattle.cl_rank.specs.Tidings.{HasLooked, TakeTells, TestTells};
 ghost use Rattle.cl_rank.specs.Turns.{AllStopped, IsActive};
 ghost use Rattle.cl_rank.specs.Turning.{StopHolds};
@@ -38,7 +37,7 @@ use cl_sides::{BoxId, begin, follow_receiver, follow_sender, make_ready, take, t
 use cl_state::{Answer, Ask, Doing, RankState};
 use cl_trace::{Event, Kind, Trace};
 use mp_request::{OpenRequest, Requests, Transfer};
-use mp_types::{Posts, Reply, Request, Stamp};
+use mp_types::{Reply, Request, Stamp};
 use part_channel::{Channel, Progress, Take};
 use part_phase::{Contents, box_words};
 use rv_hart::{Did, Hart, Mode, Wait, step};
@@ -121,12 +120,18 @@ fn is_anew(hart: &Hart) -> bool
     matches!(hart.mode(), Mode::Waiting(Wait::Again))
 }
 
-/// Whether the call waits for one thing: what one request waits for, or a message to look for.
-fn waits_for_one(doing: &Doing) -> bool
-    ensures { result ≡ waits_for_one_in doing.now }
+/// Whether a turn polls a post, or makes a call anew that waits. Told that nothing is there yet, the hart stays as it is.
+fn repeats(hart: &Hart, doing: &Doing) -> bool
+    ensures { result ≡ repeats_in hart.now.mode doing.now }
 {
     match doing {
-        Doing::Go(call) => matches!(call, Call::Wait(_) | Call::Probe(_) | Call::Mprobe(_)),
+        Doing::Poll(..) => true,
+        Doing::Go(call) => {
+            matches!(
+                call,
+                Call::Wait(_) | Call::Probe(_) | Call::Mprobe(_) | Call::Waitall(_)
+            ) && is_anew(hart)
+        }
         _ => false,
     }
 }
@@ -281,13 +286,7 @@ impl Rank {
         ensures { TurnEnds D.gives hart channels.now self.old desk.old result self.new desk.new }
     {
         if self.roomy == Some(hart) && !all_stopped(&self.state) {
-            if let Some(request) = self.state.poll(hart) {
-                return self.poll_again(rt, desk, hart, request);
-            }
             if let Some(request) = self.known(hart) {
-                return self.poll_again(rt, desk, hart, request);
-            }
-            if let Some(request) = self.asked_anew(hart) {
                 return self.poll_again(rt, desk, hart, request);
             }
         }
@@ -311,7 +310,6 @@ impl Rank {
             return Err(Stop::AllEnded);
         }
         self.roomy = None;
-        self.again = None;
         if let Some(request) = sent(&self.state, hart) {
             self.state.fresh = Vec::new(self.alloc);
             return self.send(hart, request, rt, desk);
@@ -337,7 +335,6 @@ impl Rank {
         ensures { TurnEnds D.gives hart channels.now self.old desk.old result self.new desk.new }
     {
         self.roomy = None;
-        self.again = None;
         let doing = self.state.next(hart);
         let known = self.trace.posts_of(hart);
         let Ok(ask) = self.state.ask_again(hart, &doing, known) else {
@@ -417,15 +414,13 @@ impl Rank {
         requires may { MayTurn self.old turn }
         requires asked { asked (rank_of self.old.state) turn.hart ≡ ask.Hub request }
         requires active { ¬ (AllStopped (rank_of self.old.state)) }
-        requires fresh { self.old.again ≡ None }
         ensures { (channels : List ChannelView) → IsOver self.old channels
             → TurnEnds D.gives turn.hart channels self.old desk.old result self.new desk.new }
     {
         let (request, reply, stamp) = self.ask_hub(rt, desk, turn.hart, request)?;
-        match (reply, turn.doing) {
-            (Reply::NotYet, Doing::Poll(..)) => self.wait_on(turn.hart, request, stamp),
-            (Reply::NotYet, _) => self.put_off(turn, request, stamp),
-            (reply, _) => self.tell_reply(turn, request, reply, stamp),
+        match reply {
+            Reply::NotYet => self.put_off(turn, request, stamp),
+            reply => self.tell_reply(turn, request, reply, stamp),
         }
         Ok(())
     }
@@ -545,95 +540,39 @@ impl Rank {
         note(&mut self.trace, &mut self.asked_box, &mut self.roomy, noted);
     }
 
-    /// What a hart asks that makes a call anew, where the posts are known for which it asks.
+    /// What a hart asks again whose last turn was told that nothing is there yet, if it is known.
     fn known(&self, hart: u8) -> Option<Request>
         requires { IsAgain self.now.state hart self.now.again }
         ensures { IfSome result (λ request. Stays self.now.state hart request) }
     {
         match &self.again {
             None => None,
-            Some(posts) => match posts.try_copy(self.alloc) {
-                Ok(posts) => Some(Request::All { posts }),
+            Some(request) => match request.try_copy(self.alloc) {
+                Ok(request) => Some(request),
                 Err(_) => None,
             },
         }
     }
 
-    /// What a hart asks that makes a call anew which waits for one thing.
-    fn asked_anew(&self, hart: u8) -> Option<Request>
-        requires { HasTurn self.now hart }
-        ensures { IfSome result (λ request. Stays self.now.state hart request) }
-    {
-        if !is_anew(&self.state.harts[hart as usize]) {
-            return None;
-        }
-        let doing = self.state.next(hart);
-        if !waits_for_one(&doing) {
-            return None;
-        }
-        match self.state.ask_next(hart, &doing) {
-            Ok(Ask::Hub(request)) => Some(request),
-            _ => None,
-        }
-    }
-
-    /// Whether a turn makes its call anew, and waits for one thing.
-    fn waits_anew(&self, turn: &Turn) -> bool
-        requires { turn.now.hart < vec_len self.now.state.harts }
-        ensures { IsTrue result → WaitsAnew self.now.state turn.now.hart turn.now.doing }
-    {
-        is_anew(&self.state.harts[turn.hart as usize]) && waits_for_one(&turn.doing)
-    }
-
-    /// The posts for which a call asks that waits for several requests, where the hart made it before and waits.
-    fn awaited(&self, turn: &Turn, request: &Request) -> Option<Posts>
-        requires may { MayTurn self.now turn.now }
-        requires asked { asked (rank_of self.now.state) turn.now.hart ≡ ask.Hub request.now }
-        ensures { IsAgain self.now.state turn.now.hart result }
-    {
-        let Doing::Go(call) = turn.doing else {
-            return None;
-        };
-        let Call::Waitall(_) = call else {
-            return None;
-        };
-        let Mode::Waiting(Wait::Again) = self.state.harts[turn.hart as usize].mode() else {
-            return None;
-        };
-        match request {
-            Request::All { posts } => match posts.try_copy(self.alloc) {
-                Ok(posts) => Some(posts),
-                Err(_) => None,
-            },
-            _ => None,
-        }
-    }
-
-    /// Tells the rank that nothing is there yet of what a call asked for. Where the call was made before, and waits, only
-    /// the clock moves; where it waits for several requests it is known what the hart asks next.
+    /// Tells the rank that nothing is there yet of what a call asked for. Where the hart polls, or made the call before
+    /// and waits, only the clock moves, and what it asks again is kept.
     fn put_off(&mut self, turn: Turn, request: Request, stamp: Stamp)
         requires may { MayTurn self.old turn }
-        requires fresh { self.old.again ≡ None }
         requires asked { asked (rank_of self.old.state) turn.hart ≡ ask.Hub request }
         requires stamp { (self.old.state.clock < stamp) × (stamp < 2 ^ 62) }
         ensures { IsHubTurn turn.hart request NotYet stamp self.old self.new }
     {
-        if self.waits_anew(&turn) {
+        if repeats(&self.state.harts[turn.hart as usize], &turn.doing) {
+            self.roomy = None;
+            self.again = request.try_copy(self.alloc).ok();
             self.wait_on(turn.hart, request, stamp);
-            return;
-        }
-        match self.awaited(&turn, &request) {
-            None => self.tell_reply(turn, request, Reply::NotYet, stamp),
-            Some(posts) => {
-                self.roomy = None;
-                self.again = Some(posts);
-                self.wait_on(turn.hart, request, stamp);
-            }
+        } else {
+            self.tell_reply(turn, request, Reply::NotYet, stamp);
         }
     }
 
-    /// Polls a post anew, of which the last turn was told that nothing is there yet. Only the desk's answer counts: what
-    /// the turn does is worked out where there is something, and the room for it is made.
+    /// Asks again for what the last turn was told isn't there yet. Only the desk's answer counts: what the turn does is
+    /// worked out where there is something, and the room for it is made.
     fn poll_again<R, D: Desk<R>>(
         &mut self,
         rt: &R,
@@ -657,8 +596,8 @@ impl Rank {
         Ok(())
     }
 
-    /// Tells the rank that the post which a hart polls isn't at its end: only the clock moves, and the room that was
-    /// made for the turn is there still.
+    /// Tells the rank that what a hart asks for again isn't there yet: only the clock moves, and the room that was made
+    /// for the turn is there still.
     fn wait_on(&mut self, hart: u8, request: Request, stamp: Stamp)
         requires may { MayWait self.old hart request }
         requires again { IsAgain self.old.state hart self.old.again }

@@ -10,7 +10,6 @@ pub mod Pages
 pub mod Passed
 pub mod Phases
 pub mod Places
-pub mod Polled
 pub mod Posts
 pub mod Read
 pub mod Ready

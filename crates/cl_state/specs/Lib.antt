@@ -13,7 +13,6 @@ pub mod Deals
 pub mod Right
 pub mod Standing
 pub mod Room
-pub mod Polls
 pub mod Table
 pub mod Told
 pub mod Writes

@@ -2,7 +2,6 @@
 
 ghost use Rattle.std.specs.Prelude.{◌≡◌, ◌<◌, ℕ, List, length, MatchResult, false};
 ghost use Rattle.mp_request.specs.Table.{request_at};
-ghost use Rattle.cl_calls.specs.Calls.{call_named};
 ghost use Rattle.cl_calls.specs.Needs.{needs_of_probing};
 ghost use Rattle.cl_state.specs.Asked.{asked_claim, asked_completing, asked_poll, asked_probe, asked_start};
 ghost use Rattle.cl_state.specs.TurnRoom.{carried};
@@ -11,7 +10,6 @@ ghost use Rattle.cl_state.specs.Partitions.{awaited as awaited_of};
 ghost use Rattle.cl_state.specs.Pending.{pending_of};
 ghost use Rattle.cl_state.specs.Right.{IsNoStep, IsRight, IsRunning};
 ghost use Rattle.cl_state.specs.Standing.{IsCheckedOn, asked_on, part_on};
-ghost use Rattle.cl_state.specs.declared.asking.Ask.TheVariants.{Hub};
 ghost use Rattle.cl_state.specs.declared.asking.Doing.TheVariants.{Go};
 
 use crate::asking::{Ask, Doing};
@@ -19,10 +17,9 @@ use crate::partitions::{Awaited, ask_arrived, ask_ready, ask_receiving, ask_send
 use crate::pending::{Manner, Pending};
 use crate::several::ask_several;
 use crate::transfers::{ask, ask_claimed, receive, send, source, sync_send, tag};
-use cl_calls::{Call, NO_RANK, Probing, SSEND, Site, Standing, fault};
+use cl_calls::{Call, NO_RANK, Probing, Site, Standing, fault};
 use mp_request::OpenRequest;
 use mp_types::{Posts, Request};
-use rv_decode::Reg;
 use rv_hart::{Hart, Mode, Wait};
 use rv_memory::RankMemory;
 use std::alloc::{AllocError, Global};
@@ -105,19 +102,6 @@ fn poll(call: &Call, post: u64) -> Ask
     match *call {
         Call::Ssend(_) => Ask::Hub(Request::Finished { post }),
         _ => Ask::Hub(Request::Collect { post }),
-    }
-}
-
-/// What a hart that waits for a post asks of it. A hart asks this again and again: so only its call's number is read,
-/// in a7, and not the whole call. An SSEND is the only call that polls whether it is complete.
-#[tactic(auto, using(crate::proofs::Polled::polled_finished, crate::proofs::Polled::polled_collect))]
-pub(crate) fn polled(hart: &Hart, post: u64) -> Request
-    ensures { asked_poll (call_named hart.now) post ≡ Hub result }
-{
-    if hart.get(Reg::new(17)) == SSEND {
-        Request::Finished { post }
-    } else {
-        Request::Collect { post }
     }
 }
 

@@ -1,8 +1,7 @@
 //! A rank as it runs.
 
-ghost use Rattle.std.specs.Prelude.{◌≡◌, ◌<◌, vec_len, IfOk, IfSome, IsNone, IsOk, IsOkAnd, MatchResult, OnErr, OnOk, max};
+ghost use Rattle.std.specs.Prelude.{◌≡◌, ◌<◌, vec_len, IfOk, IsOk, IsOkAnd, MatchResult, OnErr, OnOk, max};
 ghost use Rattle.rv_memory.specs.Memory.{bytes_at};
-ghost use Rattle.mp_types.specs.declared.requests.Request.{Request as RequestView};
 ghost use Rattle.cl_state.specs.Asked.{asked, doing as doing_of, part_of};
 ghost use Rattle.cl_state.specs.TurnRoom.{carried};
 ghost use Rattle.cl_state.specs.Moves.{started_by};
@@ -10,14 +9,13 @@ ghost use Rattle.cl_state.specs.Right.{growth_of};
 ghost use Rattle.cl_state.specs.Told.{told};
 
 use crate::asking::{Answer, Ask, Doing};
-use crate::doing::polled;
 use crate::telling::{Common, News, tell_hart};
 use crate::turn::Turn;
 use cl_calls::{Call, Site, Standing};
 use mp_request::Requests;
-use mp_types::{Posts, Request, Stamp};
+use mp_types::{Posts, Stamp};
 use part_phase::Phases;
-use rv_hart::{Hart, Mode, Wait};
+use rv_hart::Hart;
 use rv_memory::{RankMemory, SparePages};
 use std::alloc::{AllocError, Global};
 
@@ -51,7 +49,6 @@ pub struct RankState {
 
 impl RankState {
     ghost use Rattle.std.specs.Prelude.{[]};
-    ghost use Rattle.cl_state.specs.Polls.{Polls};
     ghost use Rattle.cl_state.specs.Room.{rank_of};
     ghost use Rattle.cl_state.specs.TurnRoom.{HasRoom, HasRoomBehind, IsNext, IsStanding, writes_of};
     ghost use Rattle.cl_state.specs.Writes.{missing_for};
@@ -110,23 +107,6 @@ impl RankState {
         ensures { IsNext self.now hart result }
     {
         Doing::of(&self.standing(), &self.harts[hart as usize])
-    }
-
-    /// What the hart asks where its next turn polls a post: worked out faster than by `next` and `ask`, as a hart that
-    /// waits does it each turn.
-    pub fn poll(&self, hart: u8) -> Option<Request>
-        requires { hart < vec_len self.now.harts }
-        ensures some { IfSome result (λ request. Polls self.now hart request) }
-        ensures none { IsNone result → (request : RequestView) → ¬ (Polls self.now hart request) }
-    {
-        let at = &self.harts[hart as usize];
-        match at.mode() {
-            Mode::Waiting(Wait::Post(post)) => Some(polled(at, post)),
-            Mode::Waiting(Wait::Again) => None,
-            Mode::Running => None,
-            Mode::Ended(_) => None,
-            Mode::Trapped(_, _) => None,
-        }
     }
 
     /// What the hart asks in its next turn. Only a copy of bytes to be sent, or a list of posts, takes memory: nothing
