@@ -106,3 +106,13 @@ some_of passes n j low holds = go (lowest_from passes 0 n) refl
 pub first_passes : (passes : ℕ → Bool) (n : ℕ) → 0 < n → passes 0 ≡ true → lowest_from passes 0 n ≡ Some 0
 first_passes passes zero some holds = absurd (omega (arith, some))
 first_passes passes (suc n) some holds = ap (tried 0 (lowest_from passes (0 + 1) n)) holds
+
+-- where each below a number fails, the lowest is sought from there on
+pub from : (passes : ℕ → Bool) (first n : ℕ) → first ≤ n → ((j : ℕ) → j < first → passes j ≡ false) →
+    lowest_from passes 0 n ≡ lowest_from passes first (n - first)
+from passes zero n few fails = let all : n ≡ n - 0 = omega arith in ap (lowest_from passes 0) all
+from passes (suc first) n few fails =
+    let next : first + 1 ≡ suc first = omega arith in
+    from passes first n (omega (arith, few)) (λ j low. fails j (omega (arith, low))) ∙
+    (skips passes first n (omega (arith, few)) (fails first (omega arith)) ∙
+    ap (λ (i : ℕ). lowest_from passes i (n - i)) next)

@@ -1,6 +1,6 @@
 //! The receiver's side of a link.
 
-ghost use Rattle.std.specs.Prelude.{◌≡◌, ◌&&◌};
+ghost use Rattle.std.specs.Prelude.{◌≡◌, ◌<◌, ◌≤◌, ◌&&◌, ℕ, false};
 ghost use Rattle.part_phase.specs.Receiving.{begun_receiving, cut_into as cut_into_of, is_cut as is_cut_of, is_left};
 ghost use Rattle.part_phase.specs.Receiving.{lowest_from, next_box, next_box_of, one_taken as one_taken_of};
 ghost use Rattle.part_phase.specs.Receiving.{overlaps as overlaps_in, shaped_receiving, unshaped_receiving};
@@ -58,12 +58,28 @@ impl RecvPhase {
         if !self.active {
             return None;
         }
-        for i in 0..self.boxes {
+        for i in self.first_over(part)..self.boxes {
             if self.wants(part, i) {
                 return Some(i);
             }
         }
         None
+    }
+
+    // The first box that doesn't end before one of this side's partitions begins.
+    fn first_over(&self, part: u8) -> u8
+        ensures few { result ≤ self.now.boxes }
+        ensures before { (place : ℕ) → place < result → overlaps_in self.now part place ≡ false }
+    {
+        if self.bytes == 0 {
+            return 0;
+        }
+        let first = u32::from(part) * u32::from(self.size) / u32::from(self.bytes);
+        if first < u32::from(self.boxes) {
+            first as u8
+        } else {
+            self.boxes
+        }
     }
 
     // Whether a box isn't taken, and has a byte of one of this side's partitions.
