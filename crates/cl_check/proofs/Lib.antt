@@ -1,1 +1,3 @@
 pub mod Verdicts
+pub mod Taken
+pub mod TakenRuns

@@ -109,6 +109,12 @@ module _ (image : ImageParts) (steps : List Step) (n : ℕ) (state : ClusterStat
   no_step nowhere h =
       let step = (its_parts h).0 in nowhere image reached.cluster step.0 reached.stands step.1
 
+  -- a step that either comes too early or isn't the machine's
+  pub no_next : (ComesAfter (last_or None (take n steps)) e → LeadsNowhere state e)
+      → ¬ IsOrderedRun image (take (n + 1) steps)
+  no_next bad h =
+      let parts = its_parts h in bad parts.1 image reached.cluster parts.0.0 reached.stands parts.0.1
+
 -- all steps were done
 pub good_at_end : (image : ImageParts) (steps : List Step) (n : ℕ) (state : ClusterState) → length steps ≤ n
     → IsReached image steps n state → StepsInOrder (take n steps) → IsOrderedRun image steps

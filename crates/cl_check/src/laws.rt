@@ -2,8 +2,8 @@
 
 ghost use Rattle.cl_check.specs.Laws.{MergedIsGoodLaw, OneVerdictLaw};
 
-/// A list of steps has one verdict at most: so whoever decides by the machine alone finds what
-/// `check` finds.
+/// A list of steps has at most one verdict. So anybody who decides it from the machine's definition alone agrees with
+/// `check`.
 pub fn one_verdict_law()
     ensures { OneVerdictLaw }
 {}

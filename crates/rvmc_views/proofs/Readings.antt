@@ -1,19 +1,22 @@
 -- From what is told of an image and steps to what is said of the record that spells them.
-use Rattle.std.proofs.Common.{◌≡◌, List, [], ℕ, inl, refl, subst, sym}
+use Rattle.std.proofs.Common.{◌≡◌, List, [], ℕ, ap, inl, refl, subst, sym, ◌∙◌}
 use Rattle.std.specs.Prelude.{MatchResult, Result, Ok, false}
 use Rattle.cl_machine.specs.declared.steps.Step.{Step}
+use Rattle.cl_check.specs.Texts.{IsCheckOf}
+use Rattle.cl_check.specs.declared.texts.Checked.{Checked}
 use Rattle.cl_text.specs.Reading.{reading_record}
 use Rattle.cl_text.specs.declared.faults.RecordFault.{RecordFault}
 use Rattle.rv_image_types.specs.declared.images.ImageParts.{ImageParts}
 use Rattle.rvmc_line.specs.declared.line.RecordCommand.{RecordCommand}
 use Rattle.rvmc_line.specs.declared.line.RecordCommand.TheVariants.{Check, Debug, Draw, List as ListSteps, Page, Report}
 use Rattle.rvmc_line.specs.declared.line.RecordCommand.TheVariants.{Stats, Why}
-use Rattle.rvmc_answers.specs.Below.{Fault}
+use Rattle.rvmc_answers.specs.Below.{Fault, verdict_status, verdict_text}
 use Rattle.rvmc_answers.specs.Below.faults
 use Rattle.rvmc_answers.specs.Ends.{IsFaulty, end_status}
 use Rattle.rvmc_views.specs.Faults.{HasTold, IsReadFault, IsStepsFault, IsUnread}
 use Rattle.rvmc_views.specs.Records.{SaysOfRecord, SaysOfSteps, TellsOfSteps, is_in_pieces, part_behind, record_part}
 use Rattle.rvmc_answers.specs.declared.answers.End.{End}
+use Rattle.rvmc_answers.specs.declared.answers.End.TheVariants.{Status}
 
 abbrev Read : Type 0
 Read = Result (ImageParts × List Step) RecordFault
@@ -65,6 +68,31 @@ says command bytes image steps text end read tells =
     (λ (read : Read). MatchResult read
     (λ r. SaysOfSteps command (part_behind command bytes) r.0 r.1 text (end_status end))
     (λ _. IsFaulty text (end_status end))) (sym read) (inl (end, tells, refl))
+
+-- ---- of `check`
+
+-- the verdict on a record is one on its steps
+check_tells : (bytes : List ℕ) (found : Checked) (text : List ℕ) (end : End)
+    → (is : IsCheckOf (reading_record bytes) found) → text ≡ verdict_text found.verdict found.steps
+    → end ≡ Status (verdict_status found.verdict) → TellsOfSteps Check [] is.image is.steps text end
+check_tells bytes found text end is told end_is = record {
+  verdict = found.verdict;
+  found = is.found;
+  told = told ∙ ap (verdict_text found.verdict) is.many;
+  end_is = end_is;
+}
+
+pub check_says : (bytes : List ℕ) (found : Checked) (text : List ℕ) (end : End) → IsCheckOf (reading_record bytes) found
+    → text ≡ verdict_text found.verdict found.steps → end ≡ Status (verdict_status found.verdict)
+    → SaysOfRecord Check bytes text (end_status end)
+check_says bytes found text end is told end_is =
+    says Check bytes is.image is.steps text end is.is (check_tells bytes found text end is told end_is)
+
+pub check_has_told : (bytes : List ℕ) (found : Checked) (text : List ℕ) (end : End)
+    → IsCheckOf (reading_record bytes) found → text ≡ verdict_text found.verdict found.steps
+    → end ≡ Status (verdict_status found.verdict) → HasTold Check bytes text end
+check_has_told bytes found text end is told end_is =
+    has_told Check bytes is.image is.steps text end is.is (check_tells bytes found text end is told end_is)
 
 -- ---- of a command whose record is all that is read
 

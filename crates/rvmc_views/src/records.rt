@@ -1,4 +1,4 @@
-//! What a command answers that takes a record: it is read here once, for all of them.
+//! What a command answers that takes a record: it is read here once, for all of them but `check`, which reads it as it goes.
 
 ghost use Rattle.std.specs.Prelude.{◌≡◌, ◌≢◌, [], IfErr, IfOk, List, Ok, false};
 ghost use Rattle.cl_text.specs.Reading.{reading_record};
@@ -32,7 +32,8 @@ pub(crate) fn read(alloc: Global, bytes: &[u8]) -> Result<(Image, Vec<Step>), Fa
 }
 
 /// What a command that only looks at the image and the steps of a record tells of them, or the fault for which it tells
-/// nothing: one case a command. What `list` and `page` tell isn't made here: it is written as it is made.
+/// nothing: one case a command. What `list` and `page` tell isn't made here: it is written as it is made. Nor is what
+/// `check` tells, which needs no list of the steps.
 fn told_of(
     alloc: Global,
     image: &Image,
@@ -41,21 +42,22 @@ fn told_of(
 ) -> Result<Answer, Fault>
     requires whole { is_in_pieces command.now ≡ false }
     requires looks { (words : List DebugWord) → command.now ≢ asked.Debug words }
+    requires listed { command.now ≢ asked.Check }
     ensures tells { IfOk result (λ answer.
         TellsOfSteps command.now [] image.now steps.now (output_bytes answer.output) answer.end) }
     ensures fault { IfErr result (IsStepsFault command.now image.now steps.now) }
 {
     match command {
-        RecordCommand::Check => checked(alloc, image, steps),
         RecordCommand::Report => reported(alloc, image, steps),
         RecordCommand::Stats { from, to, rank } => {
             counted_steps(alloc, image, steps, *from, *to, *rank)
         }
         RecordCommand::Draw { from, to } => pictured(alloc, image, steps, *from, *to),
         RecordCommand::Why { at, frames } => explained(alloc, image, steps, *at, *frames),
-        RecordCommand::List { .. } | RecordCommand::Page { .. } | RecordCommand::Debug { .. } => {
-            unreachable!()
-        }
+        RecordCommand::Check
+        | RecordCommand::List { .. }
+        | RecordCommand::Page { .. }
+        | RecordCommand::Debug { .. } => unreachable!(),
     }
 }
 
@@ -66,7 +68,8 @@ fn told(
     steps: Vec<Step>,
     command: &RecordCommand,
 ) -> Result<Answer, Fault>
-    requires { is_in_pieces command.now ≡ false }
+    requires whole { is_in_pieces command.now ≡ false }
+    requires listed { command.now ≢ asked.Check }
     ensures tells { IfOk result (λ answer.
         TellsOfSteps command.now [] image steps.items (output_bytes answer.output) answer.end) }
     ensures fault { IfErr result (IsStepsFault command.now image steps.items) }
@@ -90,6 +93,9 @@ pub fn answer_of_record(
     ensures ends { IfOk result (λ answer. HasTold command.now bytes.now (output_bytes answer.output) answer.end) }
     ensures fault { IfErr result (IsReadFault command.now (reading_record (record_part command.now bytes.now))) }
 {
+    if let RecordCommand::Check = command {
+        return checked(alloc, bytes);
+    }
     let (image, steps) = read(alloc, bytes)?;
     let answer = told(alloc, image, steps, command)?;
     Ok(answer)
