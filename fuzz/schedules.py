@@ -6,18 +6,25 @@ import collections
 import cluster
 import orders
 import why
+from formats import HELD
+from hub import NOT_YET
 from machine import RUNNING, WAITING, is_at_call, step
-from orders import Around, TooMany, copy_of_hub, copy_of_rank
+from orders import Around, TooMany, copy_of_boxes, copy_of_hub, copy_of_rank
 
 # calls that are made anew until there is something
 BLOCKING = (23, 25, 27, 35)
 
 # what a rank asks for that is there or not, where being told changes nothing for others; a poll of posts that may be synchronous
 # sends; and what makes a claim or receives what was claimed
-THERE = ("collect", "finished", "all", "probe")
+THERE = ("collect", "finished", "all", "probe", "cut")
 OF_SENDS, CLAIMS = ("finished", "all"), ("claim", "claimed")
 
+# turns at a box: a partition is made ready, looked for, or was taken, which the last two may miss. PREADY's number
+READY, LOOK, FREED = "ready", "look", "freed"
+BOX, PREADY = (READY, LOOK, FREED), 42
+
 RECEIVE, POLL, POLL_OF_SENDS, CLAIM = "receive", "poll", "poll of sends", "claim"
+INIT, POLL_OF_CUTS = "initialisation", "poll of cuts"
 
 # a rank that goes round and round without others, and never ends
 SPINS = "spins"
@@ -35,6 +42,9 @@ MANNERS.append(COUNTED)
 # a send, by how, to whom and where
 Send = collections.namedtuple("Send", "sync dest comm")
 
+# a turn at a box of a link, by its sender or by its receiver
+Side = collections.namedtuple("Side", "sends link")
+
 
 class Asked(Exception):
     """What a rank asks of the hub, in place of an answer."""
@@ -45,7 +55,7 @@ class Grown(Exception):
 
 
 class Unlisted(Exception):
-    """A turn that has no pattern: an initialisation, or one that meets a box."""
+    """A turn that has no pattern: of a rank that waits for a partition that it hasn't made ready itself."""
 
 
 class Listening:
@@ -53,12 +63,12 @@ class Listening:
 
     def __init__(self, state, note):
         self.hub, self.clock, self.note = state.hub, 0, note
-        self.waits = False
+        self.waits = self.is_pready = False
 
     def __getattr__(self, name):
         def ask(number, *arguments):
             asked = Next(name, arguments, self.waits)
-            if name == "probe" and is_there(self.hub, number, asked):
+            if name == "probe" and is_there(self.hub, None, number, asked):
                 self.note(number, asked)
                 return self.hub.probe(number, *arguments)
             raise Asked(asked)
@@ -66,24 +76,38 @@ class Listening:
         return ask
 
 
-class NoBoxes:
-    """Boxes that nobody may meet."""
+class Link:
+    """Boxes of a link that don't answer."""
+
+    def __init__(self, hub, receives, link):
+        self.hub, self.receives, self.link = hub, receives, link
+
+    def __getitem__(self, part):
+        name = LOOK if self.receives else READY if self.hub.is_pready else FREED
+        raise Asked(Next(name, (self.link, part), self.hub.waits))
+
+
+class Boxes:
+    """Boxes that don't answer, as a rank sees them."""
+
+    def __init__(self, image, number, hub):
+        self.image, self.number, self.hub = image, number, hub
 
     def __getitem__(self, link):
-        raise Unlisted
+        return Link(self.hub, self.image.links[link][1] == self.number, link)
 
 
 class State:
-    """Ranks, the hub, and what each rank asks in its next turn: None where it is stopped, or `SPINS`."""
+    """Ranks, the hub, the boxes, and what each rank asks in its next turn: None where it is stopped, or `SPINS`."""
 
-    def __init__(self, ranks, hub):
-        self.ranks, self.hub = ranks, hub
+    def __init__(self, ranks, hub, boxes):
+        self.ranks, self.hub, self.boxes = ranks, hub, boxes
         self.nexts, self.key = [None] * len(ranks), None
 
     def copy(self):
         """Another one that is the same."""
         hub = copy_of_hub(self.hub)
-        new = State([copy_of_rank(rank, rank.cluster) for rank in self.ranks], hub)
+        new = State([copy_of_rank(rank, rank.cluster) for rank in self.ranks], hub, copy_of_boxes(self.boxes))
         new.nexts, new.key = list(self.nexts), self.key
         return new
 
@@ -92,7 +116,11 @@ class State:
         asked = self.nexts[number]
         if asked is None or asked == SPINS:
             return True
-        return asked.waits and may_miss(asked) and not is_there(self.hub, number, asked)
+        return asked.waits and may_miss(asked) and not self.is_there(number)
+
+    def is_there(self, number):
+        """Whether a rank would be given what it asks for in its next turn."""
+        return is_there(self.hub, self.boxes, number, self.nexts[number])
 
     def finds_late(self, hart):
         """Whether a rank waited for what it claims, which is there now."""
@@ -105,18 +133,24 @@ class State:
 
     def around(self):
         """The cluster."""
-        now = Around(self.ranks[0].cluster.image, self.hub, NoBoxes())
+        now = Around(self.ranks[0].cluster.image, self.hub, self.boxes)
         now.ranks = [copy_of_rank(rank, now) for rank in self.ranks]
         return now
 
 
 def may_miss(asked):
     """Whether what a rank asks for may not be there."""
-    return asked.name in THERE or asked.name == "claim"
+    return asked.name in (*THERE, LOOK, FREED, "claim")
 
 
-def is_there(hub, number, asked):
-    """Whether a rank would be given what it asks for: a message, or that its sends are complete."""
+def is_there(hub, boxes, number, asked):
+    """Whether a rank would be given what it asks for: a message, that its sends are complete, how a transfer is cut, a partition,
+    or that one was taken."""
+    if asked.name in BOX:
+        link, part = asked.arguments
+        return (boxes[link][part].text is not None) == (asked.name == LOOK)
+    if asked.name == "cut":
+        return hub.cut(number, *asked.arguments) != NOT_YET
     if asked.name in ("probe", "claim"):
         return hub.found(hub.selecting("receive", number, *asked.arguments)) is not None
     if asked.name not in THERE:
@@ -173,9 +207,13 @@ class Schedules:
             return RECEIVE
         if asked.name in CLAIMS:
             return CLAIM
-        if asked.name not in THERE:
-            raise Unlisted
-        return None if asked.waits else POLL_OF_SENDS if asked.name in OF_SENDS else POLL
+        if asked.name in BOX:
+            return Side(asked.name != LOOK, asked.arguments[0])
+        if asked.name == "init":
+            return INIT
+        if asked.waits:
+            return None
+        return POLL_OF_CUTS if asked.name == "cut" else POLL_OF_SENDS if asked.name in OF_SENDS else POLL
 
     def note(self, number, asked):
         """Sees to it that what a rank asks is one of the patterns."""
@@ -207,6 +245,8 @@ class Schedules:
         """Whether a rank's send, given by what it asks, or its receive, which is None, contests a pattern of another rank."""
         if pattern == CLAIM:
             return True
+        if pattern in (INIT, POLL_OF_CUTS) or isinstance(pattern, Side):
+            return False
         if pattern in (POLL, POLL_OF_SENDS):
             return pattern == POLL_OF_SENDS if mine is None else mine[2] == other
         if pattern == RECEIVE:
@@ -221,21 +261,31 @@ class Schedules:
         if asked is None or asked == SPINS:
             return False
         if asked.name in THERE:
-            return is_there(state.hub, number, asked)
-        return asked.name not in CLAIMS and self.may_pass(number, asked)
+            return state.is_there(number)
+        if asked.name in BOX:
+            return self.may_meet(number, asked) and (asked.name == READY or (asked.waits and state.is_there(number)))
+        return asked.name not in (*CLAIMS, "init") and self.may_pass(number, asked)
+
+    def may_meet(self, number, asked):
+        """Whether no other rank is on the same side of the link of a box."""
+        mine = self.pattern(asked)
+        return not any(mine in patterns for other, patterns in enumerate(self.patterns) if other != number)
 
     # ---- turns
 
     def runs(self, state, number):
         """Lets a rank take its turns that need nobody, up to one that asks. Sets what that asks."""
         rank, hub = state.ranks[number], Listening(state, self.note)
-        rank.cluster, hart = Around(self.image, hub, NoBoxes()), rank.harts[self.plan[0]]
+        rank.cluster, hart = Around(self.image, hub, Boxes(self.image, number, hub)), rank.harts[self.plan[0]]
         state.nexts[number], seen, taken, power = None, None, 0, 64
         try:
             while not hart.is_stopped():
                 hub.waits = (hart.mode == WAITING and hart.why is not None) or hart.regs[17] in BLOCKING
+                hub.is_pready = hart.regs[17] == PREADY
                 self.turn(rank, hart)
                 taken += 1
+                if rank.event and rank.event[0] == HELD:
+                    raise Unlisted
                 if seen and seen[0] == hart.pc and seen == of_hart(rank, hart):
                     self.go_round(rank, hart)
                     state.nexts[number] = SPINS
@@ -269,11 +319,12 @@ class Schedules:
         while of_hart(rank, hart) != least:
             self.turn(rank, hart)
 
-    def take(self, state, number):
-        """A rank's next turn, and those behind it that need nobody."""
+    def take(self, state, number, must_miss=False):
+        """A rank's next turn, a look that misses or not, and those behind it that need nobody."""
         rank = state.ranks[number]
-        rank.cluster = Around(self.image, state.hub, NoBoxes())
+        rank.cluster, rank.must_miss = Around(self.image, state.hub, state.boxes), must_miss
         self.turn(rank, rank.harts[self.plan[0]])
+        rank.must_miss = False
         self.runs(state, number)
 
     def first_of(self, state):
@@ -290,7 +341,7 @@ class Schedules:
         """Whether a rank sends, receives or claims in its next turn, with nobody else on the move: it could poll in vain for
         ever."""
         asked = state.nexts[number]
-        return SPINS not in state.nexts and (not may_miss(asked) or is_there(state.hub, number, asked))
+        return SPINS not in state.nexts and asked.name not in BOX and (not may_miss(asked) or state.is_there(number))
 
     def settle(self, state):
         """Takes turns that go first until none does. Ranks that wait for what isn't there do wait then."""
@@ -339,9 +390,13 @@ class Schedules:
             if to and (to in self.wild or not self.by_source):
                 waiting.setdefault(to, []).append(places[id(post)])
         ranks = [self.key_of_rank(rank, lambda number: number and names[number - 1]) for rank in state.ranks]
+        sides = {}
+        for side in state.hub.sides:
+            sides.setdefault((side.key, side.sends), []).append((side.parts, side.size, side.link))
+        meeting = sorted(sides.items()), [[box.text for box in link] for link in state.boxes]
         is_told = any(CLAIM in patterns for patterns in self.patterns)
         many = len(state.hub.posts) if self.collected or is_told else None
-        return self.number(repr((ranks, sorted(posts.items()), sorted(waiting.items()), many)))
+        return self.number(repr((ranks, sorted(posts.items()), sorted(waiting.items()), meeting, many)))
 
     def key_of_rank(self, rank, name):
         """A rank's key, in which a hart that makes its call anew is one that makes it for the first time."""
@@ -355,8 +410,8 @@ class Schedules:
     def first(self):
         """The state that the image settles to."""
         loaded = cluster.loaded(self.image)
-        around = Around(self.image, loaded.hub, NoBoxes())
-        state = State([copy_of_rank(rank, around) for rank in loaded.ranks], loaded.hub)
+        around = Around(self.image, loaded.hub, loaded.boxes)
+        state = State([copy_of_rank(rank, around) for rank in loaded.ranks], loaded.hub, loaded.boxes)
         for number in range(len(state.ranks)):
             self.runs(state, number)
         return self.settle(state)
@@ -391,11 +446,9 @@ class Schedules:
                 self.found(state)
                 stops.append(state.key)
                 continue
-            for number in range(len(state.ranks)):
-                if state.is_in_vain(number):
-                    continue
+            for number, must_miss in self.moves(state):
                 after = state.copy()
-                self.take(after, number)
+                self.take(after, number, must_miss)
                 self.settle(after)
                 self.is_counted &= not after.finds_late(self.plan[0])
                 if after.key not in before:
@@ -409,6 +462,15 @@ class Schedules:
         self.is_unending = len(led) < self.count
         lost = [state for key, state in states.items() if key not in led]
         self.companies = {why.told_of_company(state.around()) for state in lost if waits(state)} - {b""}
+
+    @staticmethod
+    def moves(state):
+        """Who may go on where all may, and by a look that misses what is there, where the rank goes on then."""
+        for number, asked in enumerate(state.nexts):
+            if not state.is_in_vain(number):
+                yield number, False
+                if asked.name in (LOOK, FREED) and not asked.waits and state.is_there(number):
+                    yield number, True
 
     def found(self, state):
         """Keeps what is told of an end, and what is known of it."""

@@ -1,9 +1,9 @@
 -- Where all rest but for who is awake, those that are take a turn in vain, and then nobody goes on.
-use Rattle.std.proofs.Common.{◌≡◌, ◌∙◌, ℕ, zero, suc, ◌<◌, refl, sym, ap, subst, arith, ◌⊎◌, inl, inr, Bool, true, false, List, [], ◌∷◌, ◌++◌, length, Option, Some, None}
+use Rattle.std.proofs.Common.{◌≡◌, ◌∙◌, ℕ, zero, suc, ◌+◌, ◌<◌, refl, sym, ap, subst, arith, ◌⊎◌, inl, inr, Bool, true, false, List, [], ◌∷◌, ◌++◌, length, Option, Some, None}
 use Rattle.std.specs.Prelude.{if◌then◌else◌}
 use Rattle.std.specs.List.{slice_get, slice_set}
 use Rattle.std.proofs.lemmas.Bool.{cases_eq}
-use Rattle.std.proofs.lemmas.List.{length-map}
+use Rattle.std.proofs.lemmas.List.{get_or-set_same, length-map}
 use Rattle.std.proofs.lemmas.Option.{same_Some, slice_get_within}
 use Rattle.rv_memory.specs.Access.{word_at}
 use Rattle.rv_hart.specs.State.{State as Hart}
@@ -12,11 +12,9 @@ use Rattle.rv_hart.specs.declared.state.Mode.TheVariants.{Running, Waiting, Ende
 use Rattle.rv_hart.specs.declared.state.Wait.TheVariants.{Post, Again}
 use Rattle.mp_types.specs.declared.codes.Code.{Code}
 use Rattle.mp_types.specs.declared.replies.Reply.TheVariants as reply
-use Rattle.mp_types.specs.declared.requests.Request.{Request}
 use Rattle.mp_hub.specs.Hub.{outcome}
 use Rattle.mp_wait_laws.proofs.Sets.{get-set_other}
 use Rattle.mp_alike_laws.specs.Renaming.{request_by}
-use Rattle.mp_source_laws.specs.Laws.{AsksOfLive, AsksWithin}
 use Rattle.cl_calls.specs.Calls.{call_named}
 use Rattle.cl_calls.specs.Checks.{checks, first_fault}
 use Rattle.cl_calls.specs.Needs.{needs_of}
@@ -26,30 +24,38 @@ use Rattle.cl_calls.specs.declared.sites.Site.{Site}
 use Rattle.cl_state.specs.declared.asking.Answer.TheVariants as answer
 use Rattle.cl_state.specs.declared.asking.Ask.{Ask}
 use Rattle.cl_state.specs.declared.asking.Doing.TheVariants.{Step, Go}
-use Rattle.cl_state.specs.Asked.{Part, asked, checked, doing, doing_in, go_or_refuse, is_ecall, part_of}
+use Rattle.cl_state.specs.Asked.{Part, asked, checked, doing, doing_in, go_or_refuse, is_ecall, no_hart, part_of}
 use Rattle.cl_state.specs.Rank.{Rank}
 use Rattle.cl_state.specs.Told.{told}
 use Rattle.cl_state_laws.specs.Awake.{awake}
 use Rattle.cl_state_laws.specs.Leaves.{delayed}
 use Rattle.cl_state_laws.specs.Vain.{IsStopped, IsWaiting, mode_of, waits_on}
+use Rattle.cl_state_laws.specs.Laws.{IsLook, missed}
 use Rattle.cl_state_laws.proofs.Delays.{delay_law}
+use Rattle.cl_state_laws.proofs.Misses.{missed_in_vain}
 use Rattle.cl_names_laws.specs.Named.{ask_by}
-use Rattle.cl_machine.specs.Cluster.{Cluster}
-use Rattle.cl_machine.specs.Journal.{reply_in}
+use Rattle.cl_trace.specs.declared.events.Kind.{Kind}
+use Rattle.cl_machine.specs.declared.steps.Step.{Step as Taken}
+use Rattle.cl_machine.specs.Boxes.{box_number}
+use Rattle.cl_machine.specs.Cluster.{Cluster, only_told}
 use Rattle.cl_order_laws.specs.Alike.{hub_of}
 use Rattle.cl_order_laws.specs.Closed.{IsInVain}
+use Rattle.cl_order_laws.proofs.Boxes.{empty_before, empty_too}
 use Rattle.cl_order_laws.proofs.Each.{was_there}
+use Rattle.cl_order_laws.proofs.Likeness.{each_from}
 use Rattle.cl_order_laws.proofs.SureAlone.{IsLive, has_hart}
 use Rattle.cl_order_laws.proofs.SureHub.{reply_is}
-use Rattle.cl_reduction_laws.specs.Below.{AskOfLive, AskWithin}
+use Rattle.cl_reduction_laws.specs.Below.{AskOfLive, AskWithin, Turn}
 use Rattle.cl_reduction_laws.proofs.Below.{same_reply}
 use Rattle.cl_schedule_laws.specs.Machines.{GoesOn}
 use Rattle.cl_schedule_laws.proofs.Walks.{snoc}
 use Rattle.cl_reduction_laws.specs.Clusters.{Search, State, cluster_machine}
 use Rattle.cl_reduction_laws.specs.Settled.{AllWithin}
-use Rattle.cl_reduction_laws.proofs.Clusters.{cluster_machine_law, vain}
+use Rattle.cl_reduction_laws.proofs.AtBoxes.{AtBox, freed, misses, readied, took, waits_in}
+use Rattle.cl_reduction_laws.proofs.Clusters.{cluster_machine_law, missed_box, own_or_vain, vain}
+use Rattle.cl_reduction_laws.proofs.Meeting.{holds_or_empty}
 use Rattle.cl_reduction_laws.proofs.Follows.{asks_live, asks_too, pair_from, waits_too}
-use Rattle.cl_reduction_laws.proofs.Good.{Gone, IsMade, IsOwn, alone, called, gone, good_after, made_within}
+use Rattle.cl_reduction_laws.proofs.Good.{Gone, IsOnly, alone, called, gone, good_after, made_within, met}
 use Rattle.cl_reduction_laws.proofs.Machine.{IsSame, same_alike, turn_by}
 use Rattle.cl_contest_laws.proofs.Ends.{stops_too}
 use Rattle.cl_contest_laws.proofs.Rest.{Alike, AllRest, alike_on}
@@ -98,17 +104,58 @@ sleeps site p on = go p.hart.mode refl on
     go (Ended value) is on = absurd (cc)
     go (Trapped cause pc) is on = absurd (cc)
 
-same_request : (p q : Request) → Ask.Hub p ≡ Ask.Hub q → p ≡ q
-same_request p q e = cc
+-- who waits in vain isn't idle, and can take a turn
+vain_live : (c : Cluster) (r : ℕ) (a : Ask) → IsInVain c r a → IsLive a
+vain_live c r Ask.Idle none = none
+vain_live c r _ none = tt
 
--- who waits in vain asks the hub, within the patterns
-asks_hub : (c : Cluster) (r : ℕ) (a : Ask) → IsMade a → IsInVain c r a
-    → (q : Request) × (a ≡ Ask.Hub q) × (reply_in c.journal r q ≡ reply.NotYet)
-asks_hub c r (Ask.Hub q) made none = (q, refl, none)
-asks_hub c r Ask.Plain made none = absurd none
-asks_hub c r Ask.Local made none = absurd none
-asks_hub c r Ask.Idle made none = absurd none
-asks_hub c r _ made none = absurd made
+turn_in_vain : (r hart : ℕ) (c : Cluster) (rank : Rank) → slice_get c.ranks r ≡ Some rank → hart < length rank.harts
+    → IsInVain c r (asked rank hart)
+    → (new : Cluster) × Turn r hart c new
+turn_in_vain r hart c rank there inside none = go (asked rank hart) refl none
+  where
+    at : Kind → Taken
+    at kind = record { rank = r; hart = hart; stamp = rank.clock + 1; kind = kind }
+
+    go : (a : Ask) → asked rank hart ≡ a → IsInVain c r a → (new : Cluster) × Turn r hart c new
+    go (Ask.Hub q) is none = turn_by r hart c rank there inside (subst IsOnly (sym is) tt)
+    go (Ask.Look link part) is none = (
+      only_told c (at Kind.Miss) rank answer.Missed,
+      record {
+        step = at Kind.Miss;
+        rank = refl;
+        hart = refl;
+        leads = (rank, there, inside, (link, part, inl is, refl, refl));
+      },
+    )
+    go (Ask.Freed link part) is none = (
+      only_told c (at Kind.Miss) rank answer.Missed,
+      record {
+        step = at Kind.Miss;
+        rank = refl;
+        hart = refl;
+        leads = (rank, there, inside, (link, part, inr is, refl, refl));
+      },
+    )
+    go Ask.Held is none = (
+      only_told c (at Kind.Held) rank answer.Alone,
+      record { step = at Kind.Held; rank = refl; hart = refl; leads = (rank, there, inside, (is, refl, refl)) },
+    )
+    go Ask.Plain is none = absurd none
+    go Ask.Local is none = absurd none
+    go Ask.Idle is none = absurd none
+    go (Ask.Ready link part bytes) is none = absurd none
+
+-- a look that misses leaves a hart that waits on waiting
+missed_waits_on : (rank : Rank) (hart stamp : ℕ) → waits_on (doing rank.site (part_of rank hart)) ≡ true
+    → IsLook (asked rank hart) → hart < length rank.harts
+    → IsWaiting (mode_of (told rank hart answer.Missed stamp) hart)
+missed_waits_on rank hart stamp on look inside =
+    let d = doing rank.site (part_of rank hart) in
+    let h = missed d (part_of rank hart).hart in
+    subst (λ (z : Rank). IsWaiting (mode_of z hart)) (sym (missed_in_vain rank hart stamp look))
+    (subst IsWaiting (sym (ap (λ (s : Hart). s.mode) (get_or-set_same rank.harts hart h no_hart inside)))
+    (waits_in rank hart on look))
 
 module _ (search : Search) where
   abbrev hart : ℕ → ℕ
@@ -117,26 +164,66 @@ module _ (search : Search) where
   -- it waits on, and what it asks for isn't there
   record Dozes (c : Cluster) (r : ℕ) (rank : Rank) : Type 0 where
     on : waits_on (doing rank.site (part_of rank (search.harts r))) ≡ true
-    q : Request
-    asks : asked rank (search.harts r) ≡ Ask.Hub q
-    none : reply_in c.journal r q ≡ reply.NotYet
+    none : IsInVain c r (asked rank (search.harts r))
 
-  -- its turn is in vain
-  nap : (c new : Cluster) (r : ℕ) (y : Rank) → slice_get c.ranks r ≡ Some y → Dozes c r y → Gone r (hart r) c new y
-      → IsSame c new
-      × ((stamp : ℕ) × (new.ranks ≡ slice_set c.ranks r (told y (hart r) (answer.Reply reply.NotYet) stamp)))
-  nap c new r y there doze (alone stamp own ranks journal boxes) = absurd (subst IsOwn doze.asks own)
-  nap c new r y there doze (called q also k) =
-      let same = same_request q doze.q (sym also ∙ doze.asks) in
+  -- its turn is in vain, and then it waits
+  record Naps (c new : Cluster) (r : ℕ) : Type 0 where
+    same : IsSame c new
+    now : Rank
+    ranks : new.ranks ≡ slice_set c.ranks r now
+    waits : IsWaiting (mode_of now (search.harts r))
+
+  nap : (c new : Cluster) (r : ℕ) (y : Rank) → slice_get c.ranks r ≡ Some y → hart r < length y.harts → Dozes c r y
+      → Gone r (hart r) c new y
+      → Naps c new r
+  nap c new r y there inside doze (alone stamp own ranks journal boxes) =
+      absurd (own_or_vain c r (asked y (hart r)) own doze.none)
+  nap c new r y there inside doze (called q also k) =
       let told_so : (outcome (hub_of c.journal) r q).0 ≡ reply.NotYet =
-      ap (λ z. (outcome (hub_of c.journal) r z).0) same ∙ sym (reply_is c.journal r doze.q) ∙ doze.none in (
-        vain search r c new y q there doze.on also k told_so,
-        (k.stamp, k.ranks ∙ ap (λ z. slice_set c.ranks r (told y (hart r) (answer.Reply z) k.stamp)) told_so),
-      )
+      sym (reply_is c.journal r q) ∙ subst (IsInVain c r) also doze.none in
+      record {
+        same = vain search r c new y q there doze.on also k told_so;
+        now = told y (hart r) (answer.Reply reply.NotYet) k.stamp;
+        ranks = k.ranks ∙ ap (λ z. slice_set c.ranks r (told y (hart r) (answer.Reply z) k.stamp)) told_so;
+        waits = subst IsWaiting (sym (ap (λ (s : Hart). s.mode) (delay_law y (hart r) q k.stamp also inside)))
+            (sleeps y.site (part_of y (hart r)) doze.on);
+      }
+  nap c new r y there inside doze (met at box) = looked box
+    where
+      looked : AtBox r (hart r) c new y → Naps c new r
+      looked (readied link part bytes box stamp asks is empty l) = absurd (subst (IsInVain c r) asks doze.none)
+      looked (took link part bytes box stamp asks is holds l) =
+          absurd (holds_or_empty box bytes holds (subst (IsInVain c r) asks doze.none box is))
+      looked (freed link part box stamp asks is empty l) = absurd (subst (IsInVain c r) asks doze.none box is empty)
+      looked (misses stamp look l) = record {
+        same = missed_box search r c new y stamp there doze.on look l;
+        now = told y (hart r) answer.Missed stamp;
+        ranks = l.ranks;
+        waits = missed_waits_on y (hart r) stamp doze.on look inside;
+      }
 
   -- ---- from what is alike a state at which all rest
 
   module _ (e : State search) (within : AllWithin search e.cluster) (rest : AllRest search e.cluster) where
+    -- what isn't there isn't there in what is alike
+    vain_too : (d : State search) → (alike : Alike search e d) → (r : ℕ) (a : Ask) → AskWithin search.wild r a
+        → AskOfLive e.cluster a → IsInVain e.cluster r a
+        → IsInVain d.cluster r (ask_by alike.0 a)
+    vain_too d alike r (Ask.Hub q) may live none =
+        same_reply e.cluster.journal r q d.cluster.journal (request_by alike.0 q) search.wild alike.0 may live
+        (alike.1).hubs refl
+        ∙ none
+    vain_too d alike r (Ask.Look link part) may live none = λ box there.
+        (let f = each_from (alike.1).boxes (box_number link part) box there in empty_too f.0 box f.2 (none f.0 f.1))
+    vain_too d alike r (Ask.Freed link part) may live none = λ box there empty.
+        (let f = each_from (alike.1).boxes (box_number link part) box there in
+        none f.0 f.1 (empty_before f.0 box f.2 empty))
+    vain_too d alike r Ask.Held may live none = none
+    vain_too d alike r Ask.Plain may live none = none
+    vain_too d alike r Ask.Local may live none = none
+    vain_too d alike r Ask.Idle may live none = none
+    vain_too d alike r (Ask.Ready link part bytes) may live none = none
+
     dozes : (d : State search) → Alike search e d → (r : ℕ) (y : Rank) → slice_get d.cluster.ranks r ≡ Some y
         → IsStopped (mode_of y (hart r)) ⊎ Dozes d.cluster r y
     dozes d alike r y there =
@@ -147,18 +234,10 @@ module _ (search : Search) where
           | inr waits ↦
               let sx = (e.good).stands r x f.1 in
               let sy = (d.good).stands r y there in
-              let its = within r x f.1 in
-              let a = asks_hub e.cluster r (asked x (hart r)) (made_within search.patterns r (hart r) x its.0) waits.1 in
-              let may : AsksWithin search.wild r a.0 = subst (AskWithin search.wild r) a.1 its.1 in
-              let live : AsksOfLive (hub_of e.cluster.journal).board a.0 =
-              subst (AskOfLive e.cluster) a.1 (asks_live search e r (hart r) x f.1) in
               inr (record {
                 on = waits_too alike.0 (hart r) x y sx sy f.2 ∙ (waits.0).on;
-                q = request_by alike.0 a.0;
-                asks = asks_too alike.0 (hart r) x y sx sy f.2 ∙ ap (ask_by alike.0) a.1;
-                none = same_reply e.cluster.journal r a.0 d.cluster.journal (request_by alike.0 a.0) search.wild alike.0 may live
-                    (alike.1).hubs refl
-                    ∙ a.2;
+                none = subst (IsInVain d.cluster r) (sym (asks_too alike.0 (hart r) x y sx sy f.2))
+                    (vain_too d alike r (asked x (hart r)) (within r x f.1).1 (asks_live search e r (hart r) x f.1) waits.1);
               })
         ]
 
@@ -195,21 +274,18 @@ module _ (search : Search) where
         let h = hart k in
         let its = (cluster_machine_law search).within k e a p.alike (within k) in
         let made = made_within search.patterns k h y (its y there).0 in
-        let inside = has_hart y h (subst IsLive (sym doze.asks) tt) in
-        let t = turn_by k h a.cluster y there inside made in
+        let inside = has_hart y h (vain_live a.cluster k (asked y h) doze.none) in
+        let t = turn_in_vain k h a.cluster y there inside doze.none in
         let new : State search =
         record { cluster = t.0; good = good_after search k a.cluster t.0 y there a.good its t.1 } in
-        let n = nap a.cluster t.0 k y there doze (gone k h a.cluster t.0 y there made t.1) in
-        let set = n.1.1 in
-        let z = told y h (answer.Reply reply.NotYet) n.1.0 in
-        let waits : IsWaiting (mode_of z h) =
-        subst IsWaiting (sym (ap (λ (s : Hart). s.mode) (delay_law y h doze.q n.1.0 doze.asks inside)))
-        (sleeps y.site (part_of y h) doze.on) in
+        let n = nap a.cluster t.0 k y there inside doze (gone k h a.cluster t.0 y there made t.1) in
+        let set = n.ranks in
+        let z = n.now in
         record {
           ranks = p.ranks ++ k ∷ [];
           last = new;
           walk = (snoc (cluster_machine search) (cluster_machine_law search) p.ranks k d a new p.walk t.1).walk;
-          alike = alike_on search e a new p.alike (same_alike search.wild a.cluster t.0 (a.good).boxes n.0);
+          alike = alike_on search e a new p.alike (same_alike search.wild a.cluster t.0 (a.good).boxes n.same);
           quiet = λ r u low here.
               let at : slice_get (slice_set a.cluster.ranks k z) r ≡ Some u =
               sym (ap (λ xs. slice_get xs r) set) ∙ here in
@@ -218,7 +294,7 @@ module _ (search : Search) where
                     let w = was_there a.cluster.ranks k z u
                     (subst (λ i. slice_get (slice_set a.cluster.ranks k z) i ≡ Some u) (sym same) at) in
                     subst (λ i. IsQuiet (mode_of u (hart i))) same
-                    (subst (λ v. IsQuiet (mode_of v h)) w.0 (inr waits))
+                    (subst (λ v. IsQuiet (mode_of v h)) w.0 (inr n.waits))
                 | inr other ↦
                     p.quiet r u (omega (arith, low, other)) (sym (get-set_other a.cluster.ranks k r z other) ∙ at)
               ];
@@ -258,7 +334,7 @@ module _ (search : Search) where
             | inl stopped ↦ inl stopped
             | inr waits ↦ inr (
               record { waits = waits; on = doze.on },
-              subst (IsInVain n.last.cluster r) (sym doze.asks) doze.none,
+              doze.none,
             )
           ]
         ]

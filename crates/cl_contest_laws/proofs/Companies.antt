@@ -1,6 +1,6 @@
 -- Ranks that are stuck together stay so, along turns within the patterns, and are so at the node to which those lead.
 use Rattle.std.proofs.Common.{◌≡◌, ◌∙◌, ℕ, ◌<◌, ◌≤◌, refl, sym, ap, subst, arith, ◌⊎◌, inl, inr, zero, suc, Bool, true, false, cond, List, [], ◌∷◌, length, Option, Some, None}
-use Rattle.std.specs.Prelude.{◌≢◌, ◌&&◌, is_some}
+use Rattle.std.specs.Prelude.{◌≢◌, ◌&&◌}
 use Rattle.std.specs.List.{list_all, slice_get, slice_set}
 use Rattle.std.specs.Option.{option_map}
 use Rattle.std.proofs.lemmas.Bool.{and_parts, cases_Bool, cases_eq}
@@ -8,8 +8,6 @@ use Rattle.std.proofs.lemmas.List.{get_or_past}
 use Rattle.std.proofs.lemmas.Option.{same_Some, slice_get-map}
 use Rattle.rv_image_types.specs.declared.images.ImageParts.{ImageParts}
 use Rattle.rv_hart.specs.State.{State as Hart}
-use Rattle.rv_hart.specs.declared.state.Mode.{Mode}
-use Rattle.rv_hart.specs.declared.state.Mode.TheVariants.{Waiting}
 use Rattle.mp_types.specs.declared.codes.Code.TheVariants as code
 use Rattle.mp_types.specs.declared.replies.Reply.{Reply}
 use Rattle.mp_types.specs.declared.replies.Reply.TheVariants as reply
@@ -18,6 +16,7 @@ use Rattle.mp_types.specs.declared.requests.Request.TheVariants as request
 use Rattle.mp_match.specs.declared.posts.Line.{Line}
 use Rattle.mp_match.specs.Board.{collect, is_send_of, line_of}
 use Rattle.mp_hub.specs.Hub.{HubView, all_collected, all_got, are_distinct, got_or, is_complete, is_known, is_ready, may_collect, outcome}
+use Rattle.mp_transfers.specs.Inits.{is_receiver}
 use Rattle.mp_hub.proofs.Histories.{hub_more}
 use Rattle.mp_wait_laws.specs.Laws.{SendsAsMember}
 use Rattle.mp_wait_laws.specs.Waits.{IsUpTo, OnlyOf, could_pair, sends_over}
@@ -26,49 +25,50 @@ use Rattle.mp_wait_laws.proofs.Sets.{get-set_other}
 use Rattle.mp_wait_laws.proofs.Waits.{waits_law}
 use Rattle.mp_alike_laws.specs.Renaming.{Renaming, line_by, number_by, request_by}
 use Rattle.mp_source_laws.specs.Alike.{AlikeHubs, Wild}
-use Rattle.mp_source_laws.specs.Laws.{AsksOfLive, AsksWithin}
+use Rattle.mp_source_laws.specs.Laws.{AsksOfLive}
 use Rattle.mp_source_laws.proofs.Answers.{answers_law}
 use Rattle.mp_source_laws.proofs.Named.{AreSame, IsSame, all_known_same, collects_same, line_named, ready_named, sent_same}
 use Rattle.cl_journal.specs.Journal.{calls_of}
 use Rattle.cl_journal.specs.declared.entries.Entry.{Entry}
-use Rattle.cl_calls.specs.Checks.{is_comm}
 use Rattle.cl_calls.specs.declared.sites.Site.{Site}
-use Rattle.cl_calls.specs.Site.{members, position_of}
 use Rattle.cl_state.specs.declared.asking.Answer.{Answer}
 use Rattle.cl_state.specs.declared.asking.Answer.TheVariants as answer
 use Rattle.cl_state.specs.declared.asking.Ask.{Ask}
-use Rattle.cl_state.specs.Asked.{asked, no_hart}
-use Rattle.cl_state.specs.Rank.{Rank, loaded}
+use Rattle.cl_state.specs.Asked.{asked, doing, no_hart, part_of}
+use Rattle.cl_state.specs.Rank.{Rank}
 use Rattle.cl_state.specs.Told.{told}
-use Rattle.cl_state.proofs.Moves.{told_at}
 use Rattle.cl_state_laws.specs.Awake.{awake}
-use Rattle.cl_state_laws.specs.Members.{AreInside}
-use Rattle.cl_state_laws.specs.Vain.{IsPatient, IsStopped, IsWaiting, mode_of}
+use Rattle.cl_state_laws.specs.Vain.{IsPatient, IsStopped, IsWaiting, mode_of, waits_on}
 use Rattle.cl_state_laws.specs.VainLaws.{at_clock}
-use Rattle.cl_state_laws.proofs.Members.{members_law}
 use Rattle.cl_state_laws.proofs.Vain.{vain_law}
 use Rattle.cl_names_laws.specs.Named.{ask_by}
-use Rattle.cl_rank.specs.Alone.{IsAlone}
-use Rattle.cl_rank.specs.Deeds.{Deed, answer_of}
+use Rattle.cl_machine.specs.Boxes.{Box, Holds, IsEmpty, box_number, with_made, with_taken}
 use Rattle.cl_machine.specs.Cluster.{Cluster}
-use Rattle.cl_deadlock_laws.specs.Stuck.{AreStuck, AsksInVain, IsStuckHart, is_among, is_member}
-use Rattle.cl_deadlock_laws.proofs.Reached.{Comes, same_site}
+use Rattle.cl_deadlock_laws.specs.Stuck.{AreStuck, AsksInVain, IsEmptyAt, IsFullAt, IsStuckHart, is_among, is_member}
 use Rattle.cl_order_laws.specs.Alike.{AlikeRanks, hub_of}
+use Rattle.cl_order_laws.specs.Turns.{IsBox}
+use Rattle.cl_order_laws.proofs.Boxes.{empty_before, empty_too}
 use Rattle.cl_order_laws.proofs.Each.{set_here, was_there}
+use Rattle.cl_order_laws.proofs.Likeness.{each_from}
 use Rattle.cl_order_laws.proofs.SureHub.{reply_is}
 use Rattle.cl_order_laws.proofs.Vain.{hub_stays}
 use Rattle.cl_order_laws.proofs.Walks.{hub_entry}
 use Rattle.cl_outcome_laws.specs.Companies.{IsCompany}
 use Rattle.cl_reduction_laws.specs.Below.{AskOfLive, AskWithin}
 use Rattle.cl_schedule_laws.specs.Machines.{AllWithin as AllInside, GoesOn}
-use Rattle.cl_reduction_laws.specs.Clusters.{Search, State, cluster_machine}
-use Rattle.cl_reduction_laws.specs.Settled.{AllWithin, FindsClaim, IsFit}
+use Rattle.cl_reduction_laws.specs.Clusters.{IsAtBox, Search, State, cluster_machine}
+use Rattle.cl_reduction_laws.specs.Patterns.{IsAllowed, by_receiver, by_sender, pattern_of, pattern_of_ask}
+use Rattle.cl_reduction_laws.specs.Settled.{AllWithin, AreOnSides, FindsClaim, IsFit}
 use Rattle.cl_reduction_laws.proofs.Clusters.{cluster_machine_law}
 use Rattle.cl_reduction_laws.proofs.Follows.{asks_live, asks_too, pair, pair_from, waits_too}
-use Rattle.cl_reduction_laws.proofs.Good.{Gone, IsMade, IsOwn, alone, called, gone, made_within}
+use Rattle.cl_reduction_laws.proofs.AtBoxes.{AtBox, Leaves, freed, misses, readied, took}
+use Rattle.cl_reduction_laws.proofs.Good.{Gone, IsOwn, alone, called, gone, made_within, met}
 use Rattle.cl_reduction_laws.proofs.Machine.{taken}
+use Rattle.cl_reduction_laws.proofs.Meeting.{holds_or_empty}
+use Rattle.cl_reduction_laws.proofs.Places.{number_of}
 use Rattle.cl_contest_laws.proofs.Ends.{many_too, stops_too}
 use Rattle.cl_contest_laws.proofs.Rest.{Alike, alike_back, claims_or_vain}
+use Rattle.cl_contest_laws.proofs.Homes.{AreHome, IsHome, at_link, home_sends, home_told, idle_or_hub, links_stay, one_link, stopped_or_waiting}
 
 -- ---- who could bring it, in hubs that are alike
 
@@ -120,130 +120,73 @@ module _ (member : ℕ → ℕ → Bool) (among : ℕ → Bool) (wild : Wild) (n
       λ k could. up_to k (ap (λ ls. sends_over ls link k) (sym alike.links) ∙ could)
   up_to_named rank _ live waits up_to = absurd up_to
 
--- ---- where a rank sends
-
-inside_from : (ds : List Deed) (old new : Rank) → IsAlone old ds new → AreInside old.site old.requests
-    → AreInside new.site new.requests
-inside_from [] old new run inside = subst (λ (x : Rank). AreInside x.site x.requests) (sym run) inside
-inside_from (d ∷ ds) old new run inside =
-    inside_from ds run.0 new run.2
-    (subst (λ (x : Rank). AreInside x.site x.requests) (sym (run.1).4)
-    (subst (λ (site : Site). AreInside site (told old d.hart (answer_of d.act) d.stamp).requests)
-    (sym (told_at old d.hart (answer_of d.act) d.stamp).site)
-    ((members_law.kept) old d.hart d.stamp (answer_of d.act) inside)))
-
--- the rank has the image's communicators and one hart, and its open requests are in communicators of which it is a member
-pub record IsHome (image : ImageParts) (r : ℕ) (rank : Rank) : Type 0 where
-  pub site : rank.site ≡ (loaded image r).site
-  pub inside : AreInside rank.site rank.requests
-  pub one : length rank.harts ≡ 1
-
-abbrev pub AreHome : ImageParts → Cluster → Type 0
-AreHome image c = (r : ℕ) (rank : Rank) → slice_get c.ranks r ≡ Some rank → IsHome image r rank
-
-pub home_of : (image : ImageParts) (c : Cluster) → Comes image c
-    → ((r : ℕ) (rank : Rank) → slice_get c.ranks r ≡ Some rank → length rank.harts ≡ 1)
-    → AreHome image c
-home_of image c comes one r rank there =
-    let v = comes.alone r rank there in
-    record {
-      site = same_site image r v.0 rank v.1;
-      inside = inside_from v.0 (loaded image r) rank v.1 ((members_law.first) (loaded image r).site);
-      one = one r rank there;
-    }
-
-home_told : (image : ImageParts) (r hart : ℕ) (rank : Rank) (a : Answer) (stamp : ℕ) → IsHome image r rank
-    → IsHome image r (told rank hart a stamp)
-home_told image r hart rank a stamp home = record {
-  site = (told_at rank hart a stamp).site ∙ home.site;
-  inside = subst (λ (site : Site). AreInside site (told rank hart a stamp).requests) (sym (told_at rank hart a stamp).site)
-      ((members_law.kept) rank hart stamp a home.inside);
-  one = (told_at rank hart a stamp).harts ∙ home.one;
-}
-
-home_sends : (image : ImageParts) (s r hart : ℕ) (rank x : Rank) (q : Request) → IsHome image s rank → IsHome image r x
-    → asked rank hart ≡ Ask.Hub q → SendsAsMember (is_member x.site) s q
-home_sends image s r hart rank x q home its asks = go q asks
-  where
-    go : (q : Request) → asked rank hart ≡ Ask.Hub q → SendsAsMember (is_member x.site) s q
-    go (request.Send sync comm dest tag bytes) asks =
-        let comm_is : is_comm rank.site (Some comm) ≡ true =
-        (members_law.sends) rank hart comm dest tag sync bytes home.inside asks in
-        ap (λ (z : Site). is_some (position_of s (members z comm))) its.site
-        ∙ sym (ap (λ (z : Site). is_comm z (Some comm)) home.site) ∙ comm_is
-    go (request.Recv now comm source tag) asks = tt
-    go (request.Collect post) asks = tt
-    go (request.Finished post) asks = tt
-    go (request.Probe comm source tag) asks = tt
-    go (request.Claim comm source tag) asks = tt
-    go (request.Claimed now message) asks = tt
-    go (request.All posts) asks = tt
-    go (request.Init sends comm peer tag parts size) asks = tt
-    go (request.Cut link) asks = tt
-
--- ---- ranks that are held
-
-stopped_or_waiting : (m : Mode) → IsStopped m → IsWaiting m → ⊥
-stopped_or_waiting (Waiting wait) stopped waiting = stopped
-stopped_or_waiting _ stopped waiting = waiting
-
-idle_or_hub : (q : Request) → Ask.Idle ≡ Ask.Hub q → ⊥
-idle_or_hub q e = absurd (cc)
-
-same_request : (p q : Request) → Ask.Hub p ≡ Ask.Hub q → p ≡ q
-same_request p q e = cc
-
 module _ (search : Search) (image : ImageParts) (ranks : List ℕ) where
   abbrev hart : ℕ → ℕ
   hart = search.harts
 
   -- what is asked isn't there, and could come from these ranks alone
-  abbrev pub WaitsAt : HubView → ℕ → Rank → Request → Type 0
-  WaitsAt h r rank q = ((outcome h r q).0 ≡ reply.NotYet) × IsUpTo (is_member rank.site) (is_among ranks) h r q
+  abbrev pub WaitsAt : HubView → List Box → ℕ → Rank → Ask → Type 0
+  WaitsAt h boxes r rank (Ask.Hub q) =
+      ((outcome h r q).0 ≡ reply.NotYet) × IsUpTo (is_member rank.site) (is_among ranks) h r q
+  WaitsAt h boxes r rank (Ask.Look link part) =
+      IsEmptyAt boxes (box_number link part) × OnlyOf (is_among ranks) (sends_over h.links link) × (part < 16)
+  WaitsAt h boxes r rank (Ask.Freed link part) =
+      IsFullAt boxes (box_number link part) × OnlyOf (is_among ranks) (λ k. is_receiver h.links k link) × (part < 16)
+  WaitsAt h boxes r rank _ = ⊥
 
-  pub record IsHeld (h : HubView) (r : ℕ) (rank : Rank) : Type 0 where
+  pub record IsHeld (h : HubView) (boxes : List Box) (r : ℕ) (rank : Rank) : Type 0 where
     pub patient : IsPatient rank (search.harts r)
-    pub q : Request
-    pub asks : asked rank (search.harts r) ≡ Ask.Hub q
-    pub waits : WaitsAt h r rank q
+    pub waits : WaitsAt h boxes r rank (asked rank (search.harts r))
 
-  abbrev pub IsStill : HubView → ℕ → Rank → Type 0
-  IsStill h r rank = IsStopped (mode_of rank (search.harts r)) ⊎ IsHeld h r rank
+  abbrev pub IsStill : HubView → List Box → ℕ → Rank → Type 0
+  IsStill h boxes r rank = IsStopped (mode_of rank (search.harts r)) ⊎ IsHeld h boxes r rank
 
   pub record SomeHeld (c : Cluster) : Type 0 where
     pub r : ℕ
     pub rank : Rank
     pub among : is_among ranks r ≡ true
     pub there : slice_get c.ranks r ≡ Some rank
-    pub held : IsHeld (hub_of c.journal) r rank
+    pub held : IsHeld (hub_of c.journal) c.boxes r rank
 
   pub record AreStill (c : Cluster) : Type 0 where
     pub still : (r : ℕ) (rank : Rank) → is_among ranks r ≡ true → slice_get c.ranks r ≡ Some rank
-        → IsStill (hub_of c.journal) r rank
+        → IsStill (hub_of c.journal) c.boxes r rank
     pub some : SomeHeld c
     pub home : AreHome image c
+    pub sides : AreOnSides (hub_of c.journal).links search.patterns
 
-  -- ---- the two cases of a turn
+  -- ---- the cases of a turn
 
-  -- a rank of these is left as it was, but for its clock, and so is the hub
+  -- a rank of these is left as it was, but for its clock, and so are the hub and the boxes
   record Passed (r : ℕ) (c new : Cluster) (x : Rank) : Type 0 where
     stamp : ℕ
     ranks_are : new.ranks ≡ slice_set c.ranks r (at_clock x stamp)
     hub : hub_of new.journal ≡ hub_of c.journal
+    boxes : new.boxes ≡ c.boxes
 
-  pass : (r : ℕ) (c new : Cluster) (x : Rank) → IsStill (hub_of c.journal) r x → Gone r (hart r) c new x → Passed r c new x
+  own_or_waits : (h : HubView) (boxes : List Box) (r : ℕ) (x : Rank) (a : Ask) → IsOwn a → WaitsAt h boxes r x a → ⊥
+  own_or_waits h boxes r x Ask.Plain own waits = waits
+  own_or_waits h boxes r x Ask.Local own waits = waits
+  own_or_waits h boxes r x Ask.Idle own waits = waits
+  own_or_waits h boxes r x _ own waits = own
+
+  pass : (r : ℕ) (c new : Cluster) (x : Rank) → IsStill (hub_of c.journal) c.boxes r x → Gone r (hart r) c new x
+      → Passed r c new x
   pass r c new x (inl stopped) (alone stamp own ranks_are journal boxes) = record {
     stamp = stamp;
     ranks_are = ranks_are ∙ ap (slice_set c.ranks r) ((vain_law.stopped) x (hart r) stamp answer.Alone stopped).1;
     hub = ap hub_of journal;
+    boxes = boxes;
   }
   pass r c new x (inl stopped) (called p also k) =
       absurd (idle_or_hub p (sym ((vain_law.stopped) x (hart r) 0 answer.Alone stopped).0 ∙ also))
-  pass r c new x (inr held) (alone stamp own ranks_are journal boxes) = absurd (subst IsOwn held.asks own)
+  pass r c new x (inl stopped) (met at box) =
+      absurd (subst IsAtBox ((vain_law.stopped) x (hart r) 0 answer.Alone stopped).0 at)
+  pass r c new x (inr held) (alone stamp own ranks_are journal boxes) =
+      absurd (own_or_waits (hub_of c.journal) c.boxes r x (asked x (hart r)) own held.waits)
   pass r c new x (inr held) (called p also k) =
-      let same = same_request p held.q (sym also ∙ held.asks) in
       let told_so : (outcome (hub_of c.journal) r p).0 ≡ reply.NotYet =
-      ap (λ z. (outcome (hub_of c.journal) r z).0) same ∙ (held.waits).0 in
+      (subst (WaitsAt (hub_of c.journal) c.boxes r x) also held.waits).0 in
       let entry : Entry =
       record { rank = r; hart = hart r; clock = 0; stamp = 0; request = p; reply = reply.NotYet } in
       record {
@@ -251,16 +194,58 @@ module _ (search : Search) (image : ImageParts) (ranks : List ℕ) where
         ranks_are = k.ranks ∙ ap (λ z. slice_set c.ranks r (told x (hart r) (answer.Reply z) k.stamp)) told_so
             ∙ ap (slice_set c.ranks r) ((vain_law.not_yet) x (hart r) k.stamp p held.patient also);
         hub = k.hubs ∙ sym (hub_entry c.journal entry) ∙ hub_stays c.journal entry (reply_is c.journal r p ∙ told_so);
+        boxes = k.boxes;
+      }
+  pass r c new x (inr held) (met at box) = by box
+    where
+      waiting : (a : Ask) → asked x (hart r) ≡ a → WaitsAt (hub_of c.journal) c.boxes r x a
+      waiting a asks = subst (WaitsAt (hub_of c.journal) c.boxes r x) asks held.waits
+
+      by : AtBox r (hart r) c new x → Passed r c new x
+      by (readied link part bytes box stamp asks is empty l) = absurd (waiting (Ask.Ready link part bytes) asks)
+      by (took link part bytes box stamp asks is holds l) =
+          absurd (holds_or_empty box bytes holds ((waiting (Ask.Look link part) asks).0 box is))
+      by (freed link part box stamp asks is empty l) =
+          absurd ((waiting (Ask.Freed link part) asks).0 box is empty)
+      by (misses stamp look l) = record {
+        stamp = stamp;
+        ranks_are = l.ranks ∙ ap (slice_set c.ranks r) ((vain_law.missed) x (hart r) stamp held.patient look);
+        hub = ap hub_of l.journal;
+        boxes = l.boxes;
       }
 
   -- a turn of another rank brings them nothing
   waits_others : (c : Cluster) (r s : ℕ) (x : Rank) (q call : Request) → is_among ranks r ≡ true → is_among ranks s ≡ false
-      → SendsAsMember (is_member x.site) s call → WaitsAt (hub_of c.journal) r x q
-      → WaitsAt (outcome (hub_of c.journal) s call).1 r x q
+      → SendsAsMember (is_member x.site) s call → WaitsAt (hub_of c.journal) c.boxes r x (Ask.Hub q)
+      → WaitsAt (outcome (hub_of c.journal) s call).1 c.boxes r x (Ask.Hub q)
   waits_others c r s x q call inside out sends waits =
-      subst (λ h. WaitsAt h r x q) (hub_more c.journal.links (calls_of c.journal.entries) (s, call))
+      subst (λ h. WaitsAt h c.boxes r x (Ask.Hub q)) (hub_more c.journal.links (calls_of c.journal.entries) (s, call))
       ((waits_law.others) (is_member x.site) (is_among ranks) c.journal.links (calls_of c.journal.entries) r s q call
       inside out sends waits)
+
+  -- what is asked at a box isn't there still, where another hub has the same links and the box is as it was
+  waits_same : (h k : HubView) (boxes now : List Box) (r : ℕ) (x : Rank) (a : Ask) → k.links ≡ h.links
+      → IsAtBox a → slice_get now (number_of a) ≡ slice_get boxes (number_of a) → WaitsAt h boxes r x a
+      → WaitsAt k now r x a
+  waits_same h k boxes now r x (Ask.Look link part) links at same waits = (
+    λ box there. waits.0 box (sym same ∙ there),
+    λ n could. waits.1 n (ap (λ ls. sends_over ls link n) (sym links) ∙ could),
+    waits.2,
+  )
+  waits_same h k boxes now r x (Ask.Freed link part) links at same waits = (
+    λ box there. waits.0 box (sym same ∙ there),
+    λ n could. waits.1 n (ap (λ ls. is_receiver ls n link) (sym links) ∙ could),
+    waits.2,
+  )
+  waits_same h k boxes now r x (Ask.Ready link part bytes) links at same waits = absurd waits
+  waits_same h k boxes now r x _ links at same waits = absurd at
+
+  hub_or_box : (h : HubView) (boxes : List Box) (r : ℕ) (x : Rank) (a : Ask) → WaitsAt h boxes r x a
+      → ((q : Request) × (a ≡ Ask.Hub q)) ⊎ IsAtBox a
+  hub_or_box h boxes r x (Ask.Hub q) waits = inl (q, refl)
+  hub_or_box h boxes r x (Ask.Look link part) waits = inr tt
+  hub_or_box h boxes r x (Ask.Freed link part) waits = inr tt
+  hub_or_box h boxes r x _ waits = absurd waits
 
   -- another answer than NotYet, or none, to a rank that isn't among them
   record Brings (r : ℕ) (c new : Cluster) (x : Rank) : Type 0 where
@@ -268,42 +253,160 @@ module _ (search : Search) (image : ImageParts) (ranks : List ℕ) where
     home : IsHome image r x → IsHome image r then
     ranks_are : new.ranks ≡ slice_set c.ranks r then
     held : (s : ℕ) (y : Rank) → is_among ranks s ≡ true → IsHome image r x → IsHome image s y
-        → IsHeld (hub_of c.journal) s y → IsHeld (hub_of new.journal) s y
+        → IsHeld (hub_of c.journal) c.boxes s y → IsHeld (hub_of new.journal) new.boxes s y
 
-  brings : (r : ℕ) (c new : Cluster) (x : Rank) → is_among ranks r ≡ false → Gone r (hart r) c new x → Brings r c new x
-  brings r c new x out (alone stamp own ranks_are journal boxes) = record {
+  -- who asks at a box that isn't among them doesn't ask at a box that one of them waits for, unless it is in vain
+  module _ (r : ℕ) (c : Cluster) (x : Rank) (out : is_among ranks r ≡ false)
+      (sides : AreOnSides (hub_of c.journal).links search.patterns)
+      (within : IsAllowed search.patterns r (pattern_of x (search.harts r))) where
+    no_member : (among : ℕ → Bool) → among r ≡ false → among r ≡ true → ⊥
+    no_member among isnt is = (let e = sym isnt ∙ is in absurd (cc))
+
+    abbrev Waits : ℕ → Rank → Ask → Type 0
+    Waits s y a = WaitsAt (hub_of c.journal) c.boxes s y a
+
+    allowed : (a : Ask) → asked x (search.harts r) ≡ a
+        → IsAllowed search.patterns r (pattern_of_ask (waits_on (doing x.site (part_of x (search.harts r)))) a)
+    allowed a asks =
+        subst (λ u. IsAllowed search.patterns r (pattern_of_ask (waits_on (doing x.site (part_of x (search.harts r)))) u)) asks within
+
+    filled_apart : (link part : ℕ) (bytes : List ℕ) (box : Box) → asked x (search.harts r) ≡ Ask.Ready link part bytes
+        → IsBox c link part box → IsEmpty box → (s : ℕ) (y : Rank) (a : Ask) → Waits s y a → IsAtBox a
+        → box_number link part ≢ number_of a
+    filled_apart link part bytes box asks is empty s y (Ask.Look l p) waits at same =
+        let m = at_link search.patterns r part (by_sender link) (allowed (Ask.Ready link part bytes) asks) in
+        let same_link = one_link link part l p m.0 waits.2 same in
+        no_member (is_among ranks) out
+        (waits.1 r (subst (λ k. sends_over (hub_of c.journal).links k r ≡ true) same_link (sides.senders r link m.1)))
+    filled_apart link part bytes box asks is empty s y (Ask.Freed l p) waits at same =
+        waits.0 box (ap (slice_get c.boxes) (sym same) ∙ is) empty
+    filled_apart link part bytes box asks is empty s y (Ask.Ready l p bs) waits at same = waits
+    filled_apart link part bytes box asks is empty s y _ waits at same = at
+
+    emptied_apart : (link part : ℕ) (bytes : List ℕ) (box : Box) → asked x (search.harts r) ≡ Ask.Look link part
+        → IsBox c link part box → Holds box bytes → (s : ℕ) (y : Rank) (a : Ask) → Waits s y a → IsAtBox a
+        → box_number link part ≢ number_of a
+    emptied_apart link part bytes box asks is holds s y (Ask.Freed l p) waits at same =
+        let m = at_link search.patterns r part (by_receiver link) (allowed (Ask.Look link part) asks) in
+        let same_link = one_link link part l p m.0 waits.2 same in
+        no_member (is_among ranks) out
+        (waits.1 r (subst (λ k. is_receiver (hub_of c.journal).links r k ≡ true) same_link (sides.receivers r link m.1)))
+    emptied_apart link part bytes box asks is holds s y (Ask.Look l p) waits at same =
+        holds_or_empty box bytes holds (waits.0 box (ap (slice_get c.boxes) (sym same) ∙ is))
+    emptied_apart link part bytes box asks is holds s y (Ask.Ready l p bs) waits at same = waits
+    emptied_apart link part bytes box asks is holds s y _ waits at same = at
+
+  brings : (r : ℕ) (c new : Cluster) (x : Rank) → is_among ranks r ≡ false → AreOnSides (hub_of c.journal).links search.patterns
+      → IsAllowed search.patterns r (pattern_of x (search.harts r)) → Gone r (hart r) c new x → Brings r c new x
+  brings r c new x out sides within (alone stamp own ranks_are journal boxes) = record {
     then = told x (hart r) answer.Alone stamp;
     home = home_told image r (hart r) x answer.Alone stamp;
     ranks_are = ranks_are;
-    held = λ s y inside mine its held. subst (λ j. IsHeld (hub_of j) s y) (sym journal) held;
+    held = λ s y inside mine its held.
+        subst (λ j. IsHeld (hub_of j) new.boxes s y) (sym journal)
+        (subst (λ bs. IsHeld (hub_of c.journal) bs s y) (sym boxes) held);
   }
-  brings r c new x out (called p also k) = record {
+  brings r c new x out sides within (called p also k) = record {
     then = told x (hart r) (answer.Reply (outcome (hub_of c.journal) r p).0) k.stamp;
     home = home_told image r (hart r) x (answer.Reply (outcome (hub_of c.journal) r p).0) k.stamp;
     ranks_are = k.ranks;
-    held = λ s y inside mine its held.
-        subst (λ h. IsHeld h s y) (sym k.hubs)
-        (record {
-          patient = held.patient;
-          q = held.q;
-          asks = held.asks;
-          waits = waits_others c s r y held.q p inside out (home_sends image r s (hart r) x y p mine its also) held.waits;
-        });
+    held = λ s y inside mine its held. record {
+      patient = held.patient;
+      waits = subst (λ h. WaitsAt h new.boxes s y (asked y (hart s))) (sym k.hubs)
+          (subst (λ bs. WaitsAt (outcome (hub_of c.journal) r p).1 bs s y (asked y (hart s))) (sym k.boxes)
+          (by s y (asked y (hart s)) inside mine its held.waits));
+    };
   }
+    where
+      links : (outcome (hub_of c.journal) r p).1.links ≡ (hub_of c.journal).links
+      links = sym (ap (λ (h : HubView). h.links) k.hubs) ∙ links_stay r (hart r) c new x (called p also k)
+
+      by : (s : ℕ) (y : Rank) (a : Ask) → is_among ranks s ≡ true → IsHome image r x → IsHome image s y
+          → WaitsAt (hub_of c.journal) c.boxes s y a
+          → WaitsAt (outcome (hub_of c.journal) r p).1 c.boxes s y a
+      by s y (Ask.Hub q) inside mine its waits =
+          waits_others c s r y q p inside out (home_sends image r s (hart r) x y p mine its also) waits
+      by s y (Ask.Look link part) inside mine its waits =
+          waits_same (hub_of c.journal) (outcome (hub_of c.journal) r p).1 c.boxes c.boxes s y (Ask.Look link part) links tt refl waits
+      by s y (Ask.Freed link part) inside mine its waits =
+          waits_same (hub_of c.journal) (outcome (hub_of c.journal) r p).1 c.boxes c.boxes s y (Ask.Freed link part) links tt refl waits
+      by s y _ inside mine its waits = absurd waits
+  brings r c new x out sides within (met at box) = by box
+    where
+      -- the boxes but for one are as they were
+      left : (a : Answer) (stamp : ℕ) (now : List Box) → Leaves r (hart r) c new x a stamp now
+          → ((s : ℕ) (y : Rank) (q : Ask) → WaitsAt (hub_of c.journal) c.boxes s y q → IsAtBox q
+          → slice_get now (number_of q) ≡ slice_get c.boxes (number_of q))
+          → Brings r c new x
+      left a stamp now l keeps = record {
+        then = told x (hart r) a stamp;
+        home = home_told image r (hart r) x a stamp;
+        ranks_are = l.ranks;
+        held = λ s y inside mine its held. record {
+          patient = held.patient;
+          waits = subst (λ j. WaitsAt (hub_of j) new.boxes s y (asked y (hart s))) (sym l.journal)
+              (subst (λ bs. WaitsAt (hub_of c.journal) bs s y (asked y (hart s))) (sym l.boxes)
+              (go s y (asked y (hart s)) held.waits));
+        };
+      }
+        where
+          go : (s : ℕ) (y : Rank) (q : Ask) → WaitsAt (hub_of c.journal) c.boxes s y q
+              → WaitsAt (hub_of c.journal) now s y q
+          go s y (Ask.Hub q) waits = waits
+          go s y (Ask.Look link part) waits =
+              waits_same (hub_of c.journal) (hub_of c.journal) c.boxes now s y (Ask.Look link part) refl tt
+              (keeps s y (Ask.Look link part) waits tt) waits
+          go s y (Ask.Freed link part) waits =
+              waits_same (hub_of c.journal) (hub_of c.journal) c.boxes now s y (Ask.Freed link part) refl tt
+              (keeps s y (Ask.Freed link part) waits tt) waits
+          go s y _ waits = absurd waits
+
+      by : AtBox r (hart r) c new x → Brings r c new x
+      by (readied link part bytes box stamp asks is empty l) =
+          left answer.Alone stamp _ l
+          (λ s y q waits at_q. get-set_other c.boxes (box_number link part) (number_of q) (with_made box stamp bytes)
+          (filled_apart r c x out sides within link part bytes box asks is empty s y q waits at_q))
+      by (took link part bytes box stamp asks is holds l) =
+          left (answer.Taken bytes) stamp _ l
+          (λ s y q waits at_q. get-set_other c.boxes (box_number link part) (number_of q) (with_taken box stamp)
+          (emptied_apart r c x out sides within link part bytes box asks is holds s y q waits at_q))
+      by (freed link part box stamp asks is empty l) = left answer.Freed stamp c.boxes l (λ s y q waits at_q. refl)
+      by (misses stamp look l) = left answer.Missed stamp c.boxes l (λ s y q waits at_q. refl)
 
   -- ---- what stands behind a turn
 
-  held_clock : (h : HubView) (r : ℕ) (x : Rank) (clock : ℕ) → IsHeld h r x → IsHeld h r (at_clock x clock)
-  held_clock h r x clock held = record {
+  waits_clock : (h : HubView) (boxes : List Box) (r : ℕ) (x : Rank) (clock : ℕ) (a : Ask) → WaitsAt h boxes r x a
+      → WaitsAt h boxes r (at_clock x clock) a
+  waits_clock h boxes r x clock (Ask.Hub q) waits = waits
+  waits_clock h boxes r x clock (Ask.Look link part) waits = waits
+  waits_clock h boxes r x clock (Ask.Freed link part) waits = waits
+  waits_clock h boxes r x clock _ waits = absurd waits
+
+  held_clock : (h : HubView) (boxes : List Box) (r : ℕ) (x : Rank) (clock : ℕ) → IsHeld h boxes r x
+      → IsHeld h boxes r (at_clock x clock)
+  held_clock h boxes r x clock held = record {
     patient = record { waits = (held.patient).waits; on = (held.patient).on };
-    q = held.q;
-    asks = (vain_law.timeless) x (hart r) clock ∙ held.asks;
-    waits = held.waits;
+    waits = subst (WaitsAt h boxes r (at_clock x clock)) (sym ((vain_law.timeless) x (hart r) clock))
+        (waits_clock h boxes r x clock (asked x (hart r)) held.waits);
   }
 
-  still_clock : (h : HubView) (r : ℕ) (x : Rank) (clock : ℕ) → IsStill h r x → IsStill h r (at_clock x clock)
-  still_clock h r x clock (inl stopped) = inl stopped
-  still_clock h r x clock (inr held) = inr (held_clock h r x clock held)
+  still_clock : (h : HubView) (boxes : List Box) (r : ℕ) (x : Rank) (clock : ℕ) → IsStill h boxes r x
+      → IsStill h boxes r (at_clock x clock)
+  still_clock h boxes r x clock (inl stopped) = inl stopped
+  still_clock h boxes r x clock (inr held) = inr (held_clock h boxes r x clock held)
+
+  -- the same hub and the same boxes
+  still_at : (c new : Cluster) → hub_of new.journal ≡ hub_of c.journal → new.boxes ≡ c.boxes → (r : ℕ) (x : Rank)
+      → IsStill (hub_of c.journal) c.boxes r x
+      → IsStill (hub_of new.journal) new.boxes r x
+  still_at c new hub boxes r x still =
+      subst (λ h. IsStill h new.boxes r x) (sym hub) (subst (λ bs. IsStill (hub_of c.journal) bs r x) (sym boxes) still)
+
+  held_at : (c new : Cluster) → hub_of new.journal ≡ hub_of c.journal → new.boxes ≡ c.boxes → (r : ℕ) (x : Rank)
+      → IsHeld (hub_of c.journal) c.boxes r x
+      → IsHeld (hub_of new.journal) new.boxes r x
+  held_at c new hub boxes r x held =
+      subst (λ h. IsHeld h new.boxes r x) (sym hub) (subst (λ bs. IsHeld (hub_of c.journal) bs r x) (sym boxes) held)
 
   module _ (r : ℕ) (c new : Cluster) (x then : Rank) (here : slice_get c.ranks r ≡ Some x)
       (set : new.ranks ≡ slice_set c.ranks r then) where
@@ -339,13 +442,13 @@ module _ (search : Search) (image : ImageParts) (ranks : List ℕ) where
   passed_still r c new x here inside old p =
       let then = at_clock x p.stamp in
       let set = p.ranks_are in
-      let hub = sym p.hub in
       let w = old.some in
       record {
         still = λ s y among there.
-            each_rank r c new x then here set (λ k z. is_among ranks k ≡ true → IsStill (hub_of new.journal) k z)
-            (λ member. subst (λ h. IsStill h r then) hub (still_clock (hub_of c.journal) r x p.stamp (old.still r x inside here)))
-            (λ k z apart at member. subst (λ h. IsStill h k z) hub (old.still k z member at))
+            each_rank r c new x then here set (λ k z. is_among ranks k ≡ true → IsStill (hub_of new.journal) new.boxes k z)
+            (λ member. still_at c new p.hub p.boxes r then
+            (still_clock (hub_of c.journal) c.boxes r x p.stamp (old.still r x inside here)))
+            (λ k z apart at member. still_at c new p.hub p.boxes k z (old.still k z member at))
             s y there among;
         some = elim (cases_eq r w.r) [
           | inl same ↦
@@ -356,20 +459,21 @@ module _ (search : Search) (image : ImageParts) (ranks : List ℕ) where
                 rank = then;
                 among = inside;
                 there = told_there r c new x then here set;
-                held = subst (λ h. IsHeld h r then) hub
-                    (held_clock (hub_of c.journal) r x p.stamp
-                    (subst (λ z. IsHeld (hub_of c.journal) r z) is
-                    (subst (λ k. IsHeld (hub_of c.journal) k w.rank) (sym same) w.held)));
+                held = held_at c new p.hub p.boxes r then
+                    (held_clock (hub_of c.journal) c.boxes r x p.stamp
+                    (subst (λ z. IsHeld (hub_of c.journal) c.boxes r z) is
+                    (subst (λ k. IsHeld (hub_of c.journal) c.boxes k w.rank) (sym same) w.held)));
               }
           | inr apart ↦ record {
             r = w.r;
             rank = w.rank;
             among = w.among;
             there = other_there r c new x then here set w.r w.rank apart w.there;
-            held = subst (λ h. IsHeld h w.r w.rank) hub w.held;
+            held = held_at c new p.hub p.boxes w.r w.rank w.held;
           }
         ];
         home = home_all r c new x then here set old.home (home_clock r x p.stamp (old.home r x here));
+        sides = subst (λ (h : HubView). AreOnSides h.links search.patterns) (sym p.hub) old.sides;
       }
 
   out_of : (r s : ℕ) → is_among ranks r ≡ false → is_among ranks s ≡ true → r ≢ s
@@ -377,8 +481,8 @@ module _ (search : Search) (image : ImageParts) (ranks : List ℕ) where
 
   -- of another rank
   brings_still : (r : ℕ) (c new : Cluster) (x : Rank) → slice_get c.ranks r ≡ Some x → is_among ranks r ≡ false → AreStill c
-      → Brings r c new x → AreStill new
-  brings_still r c new x here out old b =
+      → (hub_of new.journal).links ≡ (hub_of c.journal).links → Brings r c new x → AreStill new
+  brings_still r c new x here out old links b =
       let set = b.ranks_are in
       let mine = old.home r x here in
       let w = old.some in
@@ -398,14 +502,17 @@ module _ (search : Search) (image : ImageParts) (ranks : List ℕ) where
           held = b.held w.r w.rank w.among mine (old.home w.r w.rank w.there) w.held;
         };
         home = home_all r c new x b.then here set old.home (b.home mine);
+        sides = subst (λ ls. AreOnSides ls search.patterns) (sym links) old.sides;
       }
 
-  still_turn : (r : ℕ) (c new : Cluster) (x : Rank) → slice_get c.ranks r ≡ Some x → AreStill c → Gone r (hart r) c new x
+  still_turn : (r : ℕ) (c new : Cluster) (x : Rank) → slice_get c.ranks r ≡ Some x
+      → IsAllowed search.patterns r (pattern_of x (search.harts r)) → AreStill c → Gone r (hart r) c new x
       → AreStill new
-  still_turn r c new x here old went = elim (cases_Bool (is_among ranks r)) [
+  still_turn r c new x here within old went = elim (cases_Bool (is_among ranks r)) [
     | inl inside ↦
         passed_still r c new x here inside old (pass r c new x (old.still r x inside here) went)
-    | inr out ↦ brings_still r c new x here out old (brings r c new x out went)
+    | inr out ↦ brings_still r c new x here out old (links_stay r (hart r) c new x went)
+        (brings r c new x out old.sides within went)
   ]
 
   pub still_walk : (rs : List ℕ) (a b : State search) → (walk : GoesOn (cluster_machine search) rs a b)
@@ -416,26 +523,38 @@ module _ (search : Search) (image : ImageParts) (ranks : List ℕ) where
       let mid = (walk.0).cluster in
       let t = taken r (hart r) a.cluster mid walk.1 in
       still_walk rs walk.0 b walk.2 inside.1
-      (still_turn r a.cluster mid t.rank t.there still
+      (still_turn r a.cluster mid t.rank t.there (inside.0 t.rank t.there).0 still
       (gone r (hart r) a.cluster mid t.rank t.there
       (made_within search.patterns r (hart r) t.rank (inside.0 t.rank t.there).0) walk.1))
 
   -- ---- a company is still
 
-  held_of : (c : Cluster) (r : ℕ) (x : Rank) → IsMade (asked x (hart r)) → IsStuckHart ranks c r x (hart r)
-      → IsHeld (hub_of c.journal) r x
-  held_of c r x made stuck = go (asked x (hart r)) refl made stuck.in_vain
+  held_of : (c : Cluster) (r : ℕ) (x : Rank) → IsAllowed search.patterns r (pattern_of x (search.harts r))
+      → (hub_of c.journal).links ≡ c.journal.links → IsStuckHart ranks c r x (hart r)
+      → IsHeld (hub_of c.journal) c.boxes r x
+  held_of c r x within links stuck =
+      record { patient = stuck.patient; waits = go (asked x (hart r)) within stuck.in_vain }
     where
-      go : (q : Ask) → asked x (hart r) ≡ q → IsMade q → AsksInVain ranks c r x.site q → IsHeld (hub_of c.journal) r x
-      go (Ask.Hub q) asks made in_vain =
-          record { patient = stuck.patient; q = q; asks = asks; waits = (in_vain.0, in_vain.1) }
-      go Ask.Plain asks made in_vain = absurd in_vain
-      go Ask.Local asks made in_vain = absurd in_vain
-      go Ask.Idle asks made in_vain = absurd in_vain
-      go Ask.Held asks made in_vain = absurd made
-      go (Ask.Ready link part bytes) asks made in_vain = absurd made
-      go (Ask.Look link part) asks made in_vain = absurd made
-      go (Ask.Freed link part) asks made in_vain = absurd made
+      go : (q : Ask)
+          → IsAllowed search.patterns r (pattern_of_ask (waits_on (doing x.site (part_of x (search.harts r)))) q)
+          → AsksInVain ranks c r x.site q
+          → WaitsAt (hub_of c.journal) c.boxes r x q
+      go (Ask.Hub q) is in_vain = (in_vain.0, in_vain.1)
+      go (Ask.Look link part) is in_vain = (
+        in_vain.0,
+        λ k could. in_vain.1 k (ap (λ ls. sends_over ls link k) (sym links) ∙ could),
+        (at_link search.patterns r part (by_receiver link) is).0,
+      )
+      go (Ask.Freed link part) is in_vain = (
+        in_vain.0,
+        λ k could. in_vain.1 k (ap (λ ls. is_receiver ls k link) (sym links) ∙ could),
+        (at_link search.patterns r part (by_sender link) is).0,
+      )
+      go Ask.Held is in_vain = absurd is
+      go Ask.Plain is in_vain = absurd in_vain
+      go Ask.Local is in_vain = absurd in_vain
+      go Ask.Idle is in_vain = absurd in_vain
+      go (Ask.Ready link part bytes) is in_vain = absurd in_vain
 
   module _ (zero_harts : (r : ℕ) → search.harts r ≡ 0) where
     below_one : (r : ℕ) (x : Rank) → length x.harts ≡ 1 → hart r < length x.harts
@@ -451,8 +570,9 @@ module _ (search : Search) (image : ImageParts) (ranks : List ℕ) where
           absurd (subst (λ (s : Hart). IsWaiting s.mode) (get_or_past x.harts h no_hart past) waits)
     ]
 
-    pub company_still : (c : Cluster) → AllWithin search c → AreHome image c → IsCompany ranks c → AreStill c
-    company_still c within home company = record {
+    pub company_still : (c : Cluster) → AllWithin search c → AreHome image c → (hub_of c.journal).links ≡ c.journal.links
+        → AreOnSides (hub_of c.journal).links search.patterns → IsCompany ranks c → AreStill c
+    company_still c within home links sides company = record {
       still = λ r x among there. still_of r x among there;
       some =
           let w = company.waits in
@@ -468,53 +588,84 @@ module _ (search : Search) (image : ImageParts) (ranks : List ℕ) where
             ];
           };
       home = home;
+      sides = sides;
     }
       where
         still_of : (r : ℕ) (x : Rank) → is_among ranks r ≡ true → slice_get c.ranks r ≡ Some x
-            → IsStill (hub_of c.journal) r x
+            → IsStill (hub_of c.journal) c.boxes r x
         still_of r x among there =
             elim (company.stuck r x (hart r) among there (below_one r x (home r x there).one)) [
               | inl stopped ↦ inl stopped
               | inr stuck ↦
-                  inr (held_of c r x (made_within search.patterns r (hart r) x (within r x there).0) stuck)
+                  inr (held_of c r x (within r x there).0 links stuck)
             ]
 
     -- ---- and a company at the node that is alike
 
     module _ (a node : State search) (alike : Alike search a node) (fit : IsFit search node.cluster)
-        (still : AreStill a.cluster) where
+        (still : AreStill a.cluster) (own_links : (hub_of node.cluster.journal).links ≡ node.cluster.journal.links) where
+      node_links : node.cluster.journal.links ≡ (hub_of a.cluster.journal).links
+      node_links = sym own_links ∙ (alike.1).hubs.links
+
+      -- in vain there too
+      vain_too : (r : ℕ) (x y : Rank) (ask : Ask) → y.site ≡ x.site → AskWithin search.wild r ask → AskOfLive a.cluster ask
+          → WaitsAt (hub_of a.cluster.journal) a.cluster.boxes r x ask
+          → AsksInVain ranks node.cluster r y.site (ask_by alike.0 ask)
+      vain_too r x y (Ask.Hub q) site may live waits = (
+        (answers_law.reply) search.wild alike.0 a.cluster.journal.links node.cluster.journal.links
+            (calls_of a.cluster.journal.entries) (calls_of node.cluster.journal.entries) r q may live (alike.1).hubs
+            ∙ waits.0,
+        subst (λ (z : Site). IsUpTo (is_member z) (is_among ranks) (hub_of node.cluster.journal) r (request_by alike.0 q))
+            (sym site)
+            (up_to_named (is_member x.site) (is_among ranks) search.wild alike.0 (hub_of a.cluster.journal)
+            (hub_of node.cluster.journal) (alike.1).hubs
+            (owned_after a.cluster.journal.links (calls_of a.cluster.journal.entries)) r q live waits.0 waits.1),
+      )
+      vain_too r x y (Ask.Look link part) site may live waits = (
+        λ box there. (let f = each_from (alike.1).boxes (box_number link part) box there in
+            empty_too f.0 box f.2 (waits.0 f.0 f.1)),
+        λ k could. waits.1 k (ap (λ ls. sends_over ls link k) (sym node_links) ∙ could),
+      )
+      vain_too r x y (Ask.Freed link part) site may live waits = (
+        λ box there empty. (let f = each_from (alike.1).boxes (box_number link part) box there in
+            waits.0 f.0 f.1 (empty_before f.0 box f.2 empty)),
+        λ k could. waits.1 k (ap (λ ls. is_receiver ls k link) (sym node_links) ∙ could),
+      )
+      vain_too r x y _ site may live waits = absurd waits
+
+      -- and it claims nothing
+      claims_nothing : (r : ℕ) (x : Rank) (ask : Ask) → AskWithin search.wild r ask → AskOfLive a.cluster ask
+          → WaitsAt (hub_of a.cluster.journal) a.cluster.boxes r x ask → FindsClaim node.cluster r (ask_by alike.0 ask) → ⊥
+      claims_nothing r x (Ask.Hub q) may live waits found =
+          claims_or_vain node.cluster r (request_by alike.0 q)
+          (reply_is node.cluster.journal r (request_by alike.0 q)
+          ∙ (answers_law.reply) search.wild alike.0 a.cluster.journal.links node.cluster.journal.links
+          (calls_of a.cluster.journal.entries) (calls_of node.cluster.journal.entries) r q may live (alike.1).hubs
+          ∙ waits.0) found
+      claims_nothing r x (Ask.Look link part) may live waits found = found
+      claims_nothing r x (Ask.Freed link part) may live waits found = found
+      claims_nothing r x _ may live waits found = absurd waits
+
       held_too : (r : ℕ) (x y : Rank) → slice_get a.cluster.ranks r ≡ Some x → slice_get node.cluster.ranks r ≡ Some y
-          → AlikeRanks alike.0 (awake x) (awake y) → IsHeld (hub_of a.cluster.journal) r x
+          → AlikeRanks alike.0 (awake x) (awake y) → IsHeld (hub_of a.cluster.journal) a.cluster.boxes r x
           → IsStuckHart ranks node.cluster r y (hart r)
       held_too r x y here there both held =
           let sx = (a.good).stands r x here in
           let sy = (node.good).stands r y there in
           let on = waits_too alike.0 (hart r) x y sx sy both ∙ (held.patient).on in
-          let asks = asks_too alike.0 (hart r) x y sx sy both ∙ ap (ask_by alike.0) held.asks in
+          let asks = asks_too alike.0 (hart r) x y sx sy both in
           let within = (cluster_machine_law search).within r node a (alike_back search a node alike) (fit.within r) in
-          let may : AsksWithin search.wild r held.q = subst (AskWithin search.wild r) held.asks (within x here).1 in
-          let live : AsksOfLive (hub_of a.cluster.journal).board held.q =
-          subst (AskOfLive a.cluster) held.asks (asks_live search a r (hart r) x here) in
+          let may = (within x here).1 in
+          let live = asks_live search a r (hart r) x here in
           let site : y.site ≡ x.site = ap (λ (z : Rank). z.site) both.1 in
-          let none =
-          (answers_law.reply) search.wild alike.0 a.cluster.journal.links node.cluster.journal.links
-          (calls_of a.cluster.journal.entries) (calls_of node.cluster.journal.entries) r held.q may live (alike.1).hubs
-          ∙ (held.waits).0 in
           record {
             patient = elim (fit.rests r y there on) [
               | inl waits ↦ waits.0
-              | inr found ↦ absurd (claims_or_vain node.cluster r (request_by alike.0 held.q)
-                  (reply_is node.cluster.journal r (request_by alike.0 held.q) ∙ none) (subst (FindsClaim node.cluster r) asks found))
+              | inr found ↦ absurd (claims_nothing r x (asked x (hart r)) may live held.waits
+                  (subst (FindsClaim node.cluster r) asks found))
             ];
-            in_vain = subst (AsksInVain ranks node.cluster r y.site) (sym asks) (
-              none,
-              subst (λ (z : Site). IsUpTo (is_member z) (is_among ranks) (hub_of node.cluster.journal) r (request_by alike.0 held.q))
-                  (sym site)
-                  (up_to_named (is_member x.site) (is_among ranks) search.wild alike.0 (hub_of a.cluster.journal)
-                  (hub_of node.cluster.journal) (alike.1).hubs
-                  (owned_after a.cluster.journal.links (calls_of a.cluster.journal.entries)) r held.q live (held.waits).0
-                  (held.waits).1),
-            );
+            in_vain = subst (AsksInVain ranks node.cluster r y.site) (sym asks)
+                (vain_too r x y (asked x (hart r)) site may live held.waits);
           }
 
       stuck_too : AreStuck ranks node.cluster

@@ -1,5 +1,5 @@
 -- What a closed list tells of a run.
-use Rattle.std.proofs.Common.{ℕ, refl, sym, subst, List, map}
+use Rattle.std.proofs.Common.{◌∙◌, ℕ, refl, sym, subst, List, map}
 use Rattle.cl_machine.specs.declared.steps.Step.{Step}
 use Rattle.cl_machine.specs.Cluster.{Cluster, IsRun}
 use Rattle.cl_order_laws.specs.Closed.{FollowPlans, IsEnd, Node, Plans, had_after}
@@ -11,11 +11,12 @@ use Rattle.cl_outcome_laws.specs.Laws.{HasCompany}
 use Rattle.cl_reduction_laws.specs.Below.{AreAlike}
 use Rattle.cl_schedule_laws.specs.Laws.{IsFound}
 use Rattle.cl_reduction_laws.specs.Clusters.{Search, State, cluster_machine}
-use Rattle.cl_reduction_laws.specs.Settled.{AllWithin, IsSettled}
+use Rattle.cl_reduction_laws.specs.Settled.{AllWithin, AreOnSides, IsSettled}
 use Rattle.cl_reduction_laws.proofs.Clusters.{cluster_machine_law}
 use Rattle.cl_contest_laws.specs.Laws.{ContestLaw, HasAlikeEnd}
 use Rattle.cl_contest_laws.specs.Lists.{IsClosedByContest, IsOneOf, StartsWell}
-use Rattle.cl_contest_laws.proofs.Companies.{company_still, company_too, home_of, still_walk}
+use Rattle.cl_contest_laws.proofs.Companies.{company_still, company_too, still_walk}
+use Rattle.cl_contest_laws.proofs.Homes.{home_of, links_of, links_walk}
 use Rattle.cl_contest_laws.proofs.Ends.{alike_asleep, rest_too}
 use Rattle.cl_contest_laws.proofs.Kept.{AreClosed, kept}
 use Rattle.cl_contest_laws.proofs.Lists.{HasOneEach, all_rest, comes, is_end, list_closed, one_walk, planned_of}
@@ -110,10 +111,13 @@ module _ (search : Search) (plans : Plans) (nodes : List Node) (start : Node) (w
         let home = home_of image a.cluster (comes start.cluster a.cluster steps well.reached run_there)
         (one steps_ranks end_node walk_there) in
         let still = still_walk search image ranks f.more a f.there f.walk f.inside
-        (company_still search image ranks (well.single).harts a.cluster f.within home
+        (company_still search image ranks (well.single).harts a.cluster f.within home (links_of a.cluster)
+        (subst (λ ls. AreOnSides ls search.patterns)
+        (((f.alike).1).hubs.links ∙ links_walk search f.more a f.there f.walk f.inside)
+        (are_closed.fit f.node.cluster at).sides)
         (subst (IsCompany ranks) (sym c.is) company)) in
         let there = company_too search image ranks (well.single).harts f.there f.node f.alike
-        (are_closed.fit f.node.cluster at) still in
+        (are_closed.fit f.node.cluster at) still (links_of f.node.cluster) in
         (at.0, at.1, at.2, subst (IsCompany ranks) (sym at.3) there)
 
 pub contest_law : ContestLaw

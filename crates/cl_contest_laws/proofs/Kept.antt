@@ -2,7 +2,7 @@
 use Rattle.std.proofs.Common.{◌≡◌, ◌∙◌, ℕ, zero, suc, refl, sym, ap, subst, arith, ◌⊎◌, inl, inr, true, Some}
 use Rattle.std.specs.Prelude.{◌==◌}
 use Rattle.std.specs.List.{slice_get}
-use Rattle.std.proofs.lemmas.Bool.{eq-eqb, eqb-true}
+use Rattle.std.proofs.lemmas.Bool.{cases_Bool, eq-eqb, eqb-true}
 use Rattle.rv_hart.specs.declared.state.Mode.{Mode}
 use Rattle.rv_hart.specs.declared.state.Mode.TheVariants.{Running, Waiting, Ended, Trapped}
 use Rattle.rv_hart.specs.declared.state.Wait.TheVariants.{Post, Again}
@@ -15,11 +15,12 @@ use Rattle.cl_machine.specs.Cluster.{Cluster}
 use Rattle.cl_reduction_laws.specs.Below.{AreAlike}
 use Rattle.cl_reduction_laws.specs.Below.{Turn}
 use Rattle.cl_schedule_laws.specs.Machines.{IsMachine}
-use Rattle.cl_schedule_laws.specs.Laws.{HasFound, IsClosed, IsOnItsWay, Kept, Leads}
+use Rattle.cl_order_laws.specs.Orders.{is_miss}
+use Rattle.cl_schedule_laws.specs.Laws.{HasFound, IsClosed, IsNearer, IsOnItsWay, Kept}
 use Rattle.cl_schedule_laws.proofs.Schedules.{has_found}
-use Rattle.cl_reduction_laws.specs.Clusters.{GoesFirst, IsWithin, Search, State, awake_cluster, cluster_machine, weight_in, weight_of}
+use Rattle.cl_reduction_laws.specs.Clusters.{Found, GoesFirst, IsWithin, Search, State, awake_cluster, cluster_machine, weight_in, weight_of}
 use Rattle.cl_reduction_laws.specs.Settled.{AllWithin, FindsClaim, HasAlike, IsFit, IsSettled, Settles}
-use Rattle.cl_reduction_laws.proofs.Clusters.{cluster_machine_law}
+use Rattle.cl_reduction_laws.proofs.Clusters.{cluster_machine_law, first_misses}
 use Rattle.cl_reduction_laws.proofs.First.{polls_on}
 use Rattle.cl_reduction_laws.proofs.Machine.{taken}
 use Rattle.cl_contest_laws.proofs.Good.{good_alike}
@@ -122,12 +123,19 @@ module _ (search : Search) (Is : Cluster → Type 0) where
 
     -- ---- what settles
 
-    -- turns of a rank lead to what settles
+    -- turns of a rank that find what they ask for lead to what settles
     abbrev Follows : ℕ → Cluster → ℕ → Type 0
-    Follows n c r = (new : Cluster) → Turn r (hart r) c new → Settles search Is n new
+    Follows n c r = (new : Cluster) → Found r (hart r) c new → Settles search Is n new
 
-    leads_of : (n : ℕ) (a : State search) (r : ℕ) → Follows n a.cluster r → Leads (cluster_machine search) kept (suc n) a r
-    leads_of n a r on = λ b turn. (n, omega arith, on b.cluster turn)
+    -- and any of its turns does, or is in vain
+    nearer : (n : ℕ) (a b : State search) (r : ℕ) (rank : Rank) → slice_get a.cluster.ranks r ≡ Some rank
+        → GoesFirst search a.cluster r rank → Follows n a.cluster r → Turn r (hart r) a.cluster b.cluster
+        → IsNearer (cluster_machine search) kept (suc n) b
+        ⊎ AreAlike search.wild (awake_cluster a.cluster) (awake_cluster b.cluster)
+    nearer n a b r rank there first on turn = elim (cases_Bool (is_miss turn.step.kind)) [
+      | inl missed ↦ inr (first_misses search r a b rank there first turn missed)
+      | inr found ↦ inl (n, omega arith, on b.cluster (turn, found))
+    ]
 
     goes : (n : ℕ) (a : State search) → AllWithin search a.cluster → (r : ℕ) (rank : Rank)
         → slice_get a.cluster.ranks r ≡ Some rank → GoesFirst search a.cluster r rank → Follows n a.cluster r
@@ -146,9 +154,10 @@ module _ (search : Search) (Is : Cluster → Type 0) where
             within = within r;
           },
           eq-eqb r r refl,
-          leads_of n a r on,
-          λ s among.
-              inl (leads_of n a s (subst (Follows n a.cluster) (sym (eqb-true s r among)) on)),
+          λ b found. (n, omega arith, on b.cluster found),
+          λ s b among turn.
+              nearer n a b r rank there first on
+              (subst (λ k. Turn k (hart k) a.cluster b.cluster) (eqb-true s r among) turn),
         )
 
     settles : (n : ℕ) (a : State search) → Settles search Is n a.cluster → IsOnItsWay (cluster_machine search) kept n a

@@ -4,6 +4,7 @@ pub mod Kept
 pub mod Walks
 pub mod Ends
 pub mod Lists
+pub mod Homes
 pub mod Companies
 pub mod Contest
 pub mod Asleep

@@ -26,13 +26,13 @@ use Rattle.cl_reduction_laws.specs.Below.{AreAlike}
 use Rattle.cl_reduction_laws.proofs.Below.{likeness_law}
 use Rattle.cl_reduction_laws.specs.Below.{Turn}
 use Rattle.cl_schedule_laws.specs.Machines.{AllWithin as AllInside, GoesOn}
-use Rattle.cl_reduction_laws.specs.Clusters.{IsWithin, Search, State, awake_cluster, cluster_machine}
+use Rattle.cl_reduction_laws.specs.Clusters.{IsAtBox, IsWithin, Search, State, awake_cluster, cluster_machine}
 use Rattle.cl_reduction_laws.specs.Settled.{AllWithin, FindsClaim}
 use Rattle.cl_reduction_laws.proofs.Awake.{map_set, mapped}
-use Rattle.cl_reduction_laws.proofs.Good.{Gone, IsOwn, alone, called, gone, made_within}
+use Rattle.cl_reduction_laws.proofs.Good.{Gone, alone, called, gone, made_within, met}
 use Rattle.cl_reduction_laws.proofs.Machine.{IsSame, each_itself, same_alike, taken}
 use Rattle.cl_reduction_laws.proofs.Follows.{follows}
-use Rattle.cl_reduction_laws.proofs.Clusters.{set_kept, vain}
+use Rattle.cl_reduction_laws.proofs.Clusters.{own_or_vain, set_kept, vain, vain_box}
 
 -- ---- one turn
 
@@ -47,12 +47,6 @@ each_waking xs ys r x z stamp here set same =
     (sym (ap (map awake) set ∙ map_set awake xs r z ∙ ap (slice_set (map awake xs) r) same))
     (each_set (AlikeRanks no_renaming) (map awake xs) (map awake xs) r (awake x) (at_clock (awake x) stamp)
     (each_itself (map awake xs)) (rank_itself (awake x) stamp)))
-
-own_or_vain : (c : Cluster) (r : ℕ) (q : Ask) → IsOwn q → IsInVain c r q → ⊥
-own_or_vain c r Ask.Plain own in_vain = in_vain
-own_or_vain c r Ask.Local own in_vain = in_vain
-own_or_vain c r Ask.Idle own in_vain = in_vain
-own_or_vain c r _ own in_vain = own
 
 -- a claim that finds its message isn't told that nothing is there
 pub claims_or_vain : (c : Cluster) (r : ℕ) (q : Request) → reply_in c.journal r q ≡ NotYet → FindsClaim c r (Ask.Hub q) → ⊥
@@ -91,6 +85,8 @@ module _ (search : Search) where
   }
   stopped_turn r c new rank there stopped (called q asks k) =
       absurd (idle_or_hub q (sym ((vain_law.stopped) rank (hart r) 0 answer.Alone stopped).0 ∙ asks))
+  stopped_turn r c new rank there stopped (met at box) =
+      absurd (subst IsAtBox ((vain_law.stopped) rank (hart r) 0 answer.Alone stopped).0 at)
 
   waiting_turn : (r : ℕ) (c new : Cluster) (rank : Rank) → slice_get c.ranks r ≡ Some rank → WaitsInVain c r rank (hart r)
       → Gone r (hart r) c new rank → IsSame c new
@@ -99,6 +95,7 @@ module _ (search : Search) where
   waiting_turn r c new rank there waits (called q asks k) =
       vain search r c new rank q there (waits.0).on asks k
       (sym (reply_is c.journal r q) ∙ subst (IsInVain c r) asks waits.1)
+  waiting_turn r c new rank there waits (met at box) = vain_box search r c new rank there (waits.0).on waits.1 box
 
   pub rest_turn : (r : ℕ) (c new : Cluster) (rank : Rank) → slice_get c.ranks r ≡ Some rank → Rests c r rank
       → Gone r (hart r) c new rank → IsSame c new

@@ -19,7 +19,7 @@ use Rattle.cl_machine.specs.Cluster.{Cluster}
 use Rattle.cl_order_laws.specs.Closed.{IsInVain, Node}
 use Rattle.cl_reduction_laws.specs.Below.{AskWithin}
 use Rattle.cl_reduction_laws.specs.Patterns.{IsAllowed, pattern_of_ask}
-use Rattle.cl_reduction_laws.specs.Settled.{FindsClaim, IsFit}
+use Rattle.cl_reduction_laws.specs.Settled.{AreOnSides, FindsClaim, IsFit}
 use Rattle.cl_moves.specs.Standing.{StandsAt}
 use Rattle.cl_moves.specs.declared.standing.Standing.{Standing}
 use Rattle.cl_contests.specs.declared.patterns.AskedBy.{AskedBy}
@@ -69,11 +69,11 @@ module _ (image : ImageParts) (standing : Standing) (node : Node) (stands : Stan
       of (Some own) is mapped = subst (P r) (same_Some (rank_of own) rank mapped) (each r own is)
 
   pub all_fit : (kept : List AskedBy) → length (standing.whole).board.lines + 3 < 65536
-      → WaitsWithin (wild_of kept) standing.whole
+      → WaitsWithin (wild_of kept) standing.whole → AreOnSides (standing.whole).links (patterns_of kept)
       → ((r : ℕ) (own : RankState) → slice_get ranks r ≡ Some own
       → IsFitRank (search_of kept) node.cluster r (rank_of own))
       → IsFit (search_of kept) node.cluster
-  all_fit kept room waits each =
+  all_fit kept room waits sides each =
       let fits = each_rank (λ r rank. IsFitRank (search_of kept) node.cluster r rank) each in
       record {
         within = λ r rank there. let v = fits r rank there in (v.allowed, v.within);
@@ -81,4 +81,5 @@ module _ (image : ImageParts) (standing : Standing) (node : Node) (stands : Stan
         room = subst (λ (h : HubView). length (h.board).lines + 3 < 65536) stands.whole room;
         rests = λ r rank there. (fits r rank there).rests;
         stands = λ r rank there. (fits r rank there).stands;
+        sides = subst (λ (h : HubView). AreOnSides h.links (patterns_of kept)) stands.whole sides;
       }

@@ -28,13 +28,13 @@ use Rattle.cl_moves.specs.declared.standing.Standing.{Standing}
 use Rattle.cl_moves.proofs.Resting.{own_at}
 use Rattle.cl_moves.proofs.Surely.{reached_by}
 use Rattle.cl_reduction_laws.specs.Clusters.{Search, awake_cluster}
-use Rattle.cl_reduction_laws.specs.Patterns.{IsAllowed, pattern_of, pattern_of_ask}
+use Rattle.cl_reduction_laws.specs.Patterns.{IsAllowed, MayMeet, pattern_of, pattern_of_ask}
 use Rattle.cl_reduction_laws.specs.Settled.{AllWithin}
 use Rattle.cl_contests.specs.declared.patterns.AskedBy.{AskedBy}
 use Rattle.cl_contests.specs.Going.{IsFirstHart, IsSettledThere, LeadsOn, SettlesFrom}
 use Rattle.cl_contests.specs.Kept.{patterns_of, search_of, wild_of}
-use Rattle.cl_contests.specs.Turns.{AsksWithin, GoesAlone, GoesInVain, GoesWithin, IsBusyKind, IsBusyTurn, IsFirstCall, IsFirstNext, IsFirstTurn, IsUncontested, IsVainCall, IsVainNext, IsVainTurn, TellsWithin}
-use Rattle.cl_contests.proofs.Settling.{alike_in_vain, settled_there, settles_alone, settles_posted, settles_ready}
+use Rattle.cl_contests.specs.Turns.{AsksWithin, GoesAlone, GoesInVain, GoesWithin, IsBusyKind, IsBusyTurn, IsFirstCall, IsFirstNext, IsFirstTurn, IsMaking, IsMeetingCall, IsMeetingNext, IsMeetingTurn, IsUncontested, IsVainCall, IsVainNext, IsVainTurn, TellsWithin}
+use Rattle.cl_contests.proofs.Settling.{alike_in_vain, alike_missed, settled_there, settles_alone, settles_met, settles_posted, settles_ready}
 
 -- ---- one after another
 
@@ -237,6 +237,36 @@ first_taken kept old new e within turn took = λ all order first.
           turn.asks may
     ])
 
+pub met_taken : (kept : List AskedBy) (old new : Standing) (e : Step) → TellsWithin (search_of kept) old true
+    → IsMeetingTurn (search_of kept) old e → Took old e new
+    → GoesWithin (search_of kept) old new true
+met_taken kept old new e within turn took = λ all order first.
+    leads_by order (SettlesFrom (search_of kept)) old new e turn.own first took turn.there turn.hart_is
+    (λ image here next stands there reached step.
+    settles_met (search_of kept) here.cluster next e (rank_of turn.own) there turn.hart_is step
+    (within refl image here stands) turn.fills (turn.meets).waits (turn.meets).pass)
+
+pub told_met : (kept : List AskedBy) (standing : Standing) (rank : ℕ) (own : RankState) (waits : Bool) (d : Doing) (ask : Ask)
+    → slice_get standing.cluster.ranks.items rank ≡ Some own → waits ≡ waits_on d
+    → d ≡ doing own.site (part_of (rank_of own) 0) → ask ≡ asked (rank_of own) 0
+    → (o : Option Step) → IsMeetingCall (search_of kept) rank waits ask o
+    → IsMeetingNext (search_of kept) standing o
+told_met kept standing rank own waits d ask there anew spelled asks None call = tt
+told_met kept standing rank own waits d ask there anew spelled asks (Some e) call = record {
+  own = own;
+  there = subst (λ r. slice_get standing.cluster.ranks.items r ≡ Some own) (sym call.0) there;
+  hart_is = call.1;
+  fills = call.2;
+  meets = record {
+    waits = elim call.3 [
+      | inl making ↦ inl (subst IsMaking asks making)
+      | inr on ↦ inr (ap waits_on (sym spelled) ∙ sym anew ∙ on)
+    ];
+    pass = λ s p apart allowed.
+        subst (λ a. MayMeet a p) asks (call.4 s p (λ same. apart (same ∙ sym call.0)) allowed);
+  };
+}
+
 -- ---- polls of what isn't there
 
 abbrev pub AreAwake : List AskedBy → Cluster → Cluster → Type 0
@@ -258,8 +288,14 @@ pub vain_taken : (old new : Standing) (e : Step) → IsVainTurn old e → Took o
 vain_taken old new e turn took = λ all order kept first.
     leads_by order (AreAwake kept) old new e turn.own first took turn.there turn.hart_is
     (λ image here next stands there reached step.
-    alike_in_vain (search_of kept) here.cluster next e (rank_of turn.own) there turn.hart_is step
-    (same_law.itself here.cluster reached) turn.on turn.kind_is)
+    elim turn.kind_is [
+      | inl none ↦
+          alike_in_vain (search_of kept) here.cluster next e (rank_of turn.own) there turn.hart_is step
+          (same_law.itself here.cluster reached) turn.on none
+      | inr missed ↦
+          alike_missed (search_of kept) here.cluster next e (rank_of turn.own) there turn.hart_is step
+          (same_law.itself here.cluster reached) turn.on missed
+    ])
 
 -- by whether it was a step
 pub vain_polled : (old new : Standing) (e : Step) → IsVainTurn old e → (b : Bool) → Takes old e new b → GoesInVain old new b

@@ -1,8 +1,8 @@
 -- A rank that can go on where no other rank can.
-use Rattle.std.proofs.Common.{◌≡◌, ◌∙◌, ℕ, ◌+◌, ◌≤◌, refl, sym, ap, subst, arith, inl, inr, true, List, length, Option, Some, None}
+use Rattle.std.proofs.Common.{◌≡◌, ◌∙◌, ℕ, ◌+◌, ◌≤◌, refl, sym, ap, subst, arith, inl, inr, true, false, List, length, Option, Some, None}
 use Rattle.std.specs.Prelude.{◌≢◌}
 use Rattle.std.specs.List.{slice_get}
-use Rattle.std.specs.Option.{option_map}
+use Rattle.std.specs.Option.{is_some, option_map}
 use Rattle.std.proofs.lemmas.Option.{same_Some, slice_get-map, slice_get_within}
 use Rattle.rv_image_types.specs.declared.images.ImageParts.{ImageParts}
 use Rattle.mp_types.specs.declared.requests.Request.{Request}
@@ -15,21 +15,21 @@ use Rattle.cl_machine.specs.declared.steps.Step.{Step}
 use Rattle.cl_order_laws.specs.Closed.{Node}
 use Rattle.cl_moves.specs.Standing.{StandsAt, Took}
 use Rattle.cl_moves.specs.declared.standing.Standing.{Standing}
-use Rattle.cl_moves.proofs.Resting.{below_on, hub_in_vain}
+use Rattle.cl_moves.proofs.Resting.{below_on}
 use Rattle.cl_reduction_laws.specs.Clusters.{CanGo, IsStill, Search}
 use Rattle.cl_contests.specs.declared.patterns.AskedBy.{AskedBy}
 use Rattle.cl_contests.specs.Going.{SettlesFrom}
 use Rattle.cl_contests.specs.Kept.{search_of}
 use Rattle.cl_contests.specs.Lone.{AreStillBelow, IsLoneIfSome, IsLoneNext, IsLoneRank, IsNextTurn, IsOther, IsStillIn, IsTurnIfSome}
-use Rattle.cl_contests.specs.Turns.{GoesWithin, TellsWithin}
-use Rattle.cl_contests.proofs.Leading.{first_taken, leads_by}
+use Rattle.cl_contests.specs.Turns.{GoesWithin, IsMeetingNext, TellsWithin}
+use Rattle.cl_contests.proofs.Leading.{first_taken, leads_by, met_taken}
 use Rattle.cl_contests.proofs.Settling.{settles_lone}
 
 module _ (image : ImageParts) (old : Standing) (here : Node) (stands : StandsAt image old here) where
   still_of : (s : ℕ) (own : RankState) → IsStillIn old s own → IsStill here.cluster s (rank_of own) 0
   still_of s own (inl stopped) = inl stopped
   still_of s own (inr vain) =
-      inr (vain.0, vain.1, vain.2, (hub_in_vain image old.cluster here.cluster stands.stands s vain.0).0 vain.3)
+      inr (vain.0, vain.1 image here.cluster stands.stands)
 
   others_still : (r : ℕ) → IsLoneRank old r → (s : ℕ) (other : Rank) → s ≢ r → slice_get here.cluster.ranks s ≡ Some other
       → IsStill here.cluster s other 0
@@ -51,7 +51,8 @@ pub next_taken : (kept : List AskedBy) (old new : Standing) (e : Step) → Tells
     → IsNextTurn (search_of kept) old (Some e) → Took old e new
     → GoesWithin (search_of kept) old new true
 next_taken kept old new e within (inl turn) took = first_taken kept old new e within turn took
-next_taken kept old new e within (inr turn) took = λ all order first.
+next_taken kept old new e within (inr (inl turn)) took = met_taken kept old new e within turn took
+next_taken kept old new e within (inr (inr turn)) took = λ all order first.
     leads_by order (SettlesFrom (search_of kept)) old new e turn.own first took turn.there turn.hart_is
     (λ image here next stands there reached step.
     settles_lone (search_of kept) here.cluster next e (rank_of turn.own) there turn.hart_is step
@@ -76,9 +77,18 @@ told_lone standing rank own request there asks lone (Some e) turn = record {
 
 pub lone_next : (search : Search) (standing : Standing) (o : Option Step) → IsLoneNext standing o → IsNextTurn search standing o
 lone_next search standing None turn = tt
-lone_next search standing (Some e) turn = inr turn
+lone_next search standing (Some e) turn = inr (inr turn)
+
+pub met_next : (search : Search) (standing : Standing) (o : Option Step) → IsMeetingNext search standing o
+    → IsNextTurn search standing o
+met_next search standing None turn = tt
+met_next search standing (Some e) turn = inr (inl turn)
 
 -- ---- one rank after another
+
+pub none_yet : (lone : Option ℕ) → is_some lone ≡ false → lone ≡ None
+none_yet None none = refl
+none_yet (Some r) none = absurd (cc)
 
 module _ (standing : Standing) (n : ℕ) where
   abbrev items : List RankState

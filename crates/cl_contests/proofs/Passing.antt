@@ -4,16 +4,22 @@ use Rattle.std.specs.List.{list_any, slice_get}
 use Rattle.std.proofs.Common.{refl, sym, ap, ◌∙◌, subst, arith, inl, inr}
 use Rattle.std.proofs.lemmas.Bool.{and_parts, cases_eq, eq-eqb, eqb-true, not-true, or_cases}
 use Rattle.std.proofs.lemmas.Option.{same_Some, slice_get_within}
+use Rattle.rv_image_types.specs.declared.images.Link.{Link}
 use Rattle.mp_types.specs.declared.requests.Request.{Request}
 use Rattle.mp_types.specs.declared.requests.Request.TheVariants as request
+use Rattle.mp_transfers.specs.Inits.{is_receiver}
+use Rattle.mp_wait_laws.specs.Waits.{sends_over}
 use Rattle.mp_source_laws.specs.Alike.{Wild}
 use Rattle.mp_clash_laws.specs.Exchanges.{BringsNothing, NoRace, NoSync}
-use Rattle.cl_reduction_laws.specs.Patterns.{IsAllowed, MayPass, Pattern as Asked, claim, own, poll, poll_of_sends, receive, send, unlisted, wait}
+use Rattle.cl_reduction_laws.specs.Clusters.{IsAtBox}
+use Rattle.cl_reduction_laws.specs.Settled.{AreOnSides}
+use Rattle.cl_reduction_laws.specs.Patterns.{IsAllowed, MayMeet, MayPass, Pattern as Asked, by_receiver, by_sender, claim, initialisation, own, poll, poll_of_cuts, poll_of_sends, receive, send, unlisted, wait}
+use Rattle.cl_state.specs.declared.asking.Ask.{Ask}
 use Rattle.cl_contests.specs.declared.patterns.AskedBy.{AskedBy}
 use Rattle.cl_contests.specs.declared.patterns.Pattern.{Pattern}
 use Rattle.cl_contests.specs.declared.patterns.Pattern.TheVariants as pattern
 use Rattle.cl_contests.specs.Kept.{is_pattern, is_same_bool, patterns_of, wild_of}
-use Rattle.cl_contests.specs.Passing.{Keeps, MayPassKept, has_pattern, is_wanted}
+use Rattle.cl_contests.specs.Passing.{IsOnSide, Keeps, MayMeetKept, MayPassKept, has_pattern, is_wanted}
 
 pub is_other : (a b : ℕ) → not (a == b) ≡ true → a ≢ b
 is_other a b apart same =
@@ -98,6 +104,10 @@ module _ (kept : List AskedBy) (r : ℕ) (q : Request) (a : AskedBy) where
       each poll same = absurd (cc)
       each poll_of_sends same = absurd (cc)
       each claim same = absurd (cc)
+      each initialisation same = absurd (cc)
+      each poll_of_cuts same = absurd (cc)
+      each (by_sender link) same = absurd (cc)
+      each (by_receiver link) same = absurd (cc)
       each unlisted same = absurd (cc)
 
   pub passes_receive : a.pattern ≡ pattern.Receive → NoSync r q a.rank (request.Recv false 0 None None)
@@ -112,6 +122,10 @@ module _ (kept : List AskedBy) (r : ℕ) (q : Request) (a : AskedBy) where
       each poll same = absurd (cc)
       each poll_of_sends same = absurd (cc)
       each claim same = absurd (cc)
+      each initialisation same = absurd (cc)
+      each poll_of_cuts same = absurd (cc)
+      each (by_sender link) same = absurd (cc)
+      each (by_receiver link) same = absurd (cc)
       each unlisted same = absurd (cc)
 
   pub passes_poll : a.pattern ≡ pattern.Poll → BringsNothing q a.rank (request.Collect 0) → MayPassKept kept r q a
@@ -125,6 +139,10 @@ module _ (kept : List AskedBy) (r : ℕ) (q : Request) (a : AskedBy) where
       each wait same = absurd (cc)
       each poll_of_sends same = absurd (cc)
       each claim same = absurd (cc)
+      each initialisation same = absurd (cc)
+      each poll_of_cuts same = absurd (cc)
+      each (by_sender link) same = absurd (cc)
+      each (by_receiver link) same = absurd (cc)
       each unlisted same = absurd (cc)
 
   pub passes_poll_of_sends : a.pattern ≡ pattern.PollOfSends → BringsNothing q a.rank (request.Finished 0)
@@ -139,10 +157,82 @@ module _ (kept : List AskedBy) (r : ℕ) (q : Request) (a : AskedBy) where
       each wait same = absurd (cc)
       each poll same = absurd (cc)
       each claim same = absurd (cc)
+      each initialisation same = absurd (cc)
+      each poll_of_cuts same = absurd (cc)
+      each (by_sender link) same = absurd (cc)
+      each (by_receiver link) same = absurd (cc)
       each unlisted same = absurd (cc)
 
   pub passes_source : (comm : ℕ) → a.pattern ≡ pattern.AnySource comm → MayPassKept kept r q a
   passes_source comm is = by (pattern.AnySource comm) is (λ p same. absurd (cc))
+
+  pub passes_initialisation : a.pattern ≡ pattern.Initialisation → MayPassKept kept r q a
+  passes_initialisation is = by pattern.Initialisation is each
+    where
+      each : (p : Asked) → is_pattern pattern.Initialisation p ≡ true → MayPass (wild_of kept) r q a.rank p
+      each initialisation same = tt
+      each own same = absurd (cc)
+      each (send its to other) same = absurd (cc)
+      each receive same = absurd (cc)
+      each wait same = absurd (cc)
+      each poll same = absurd (cc)
+      each poll_of_sends same = absurd (cc)
+      each claim same = absurd (cc)
+      each poll_of_cuts same = absurd (cc)
+      each (by_sender other) same = absurd (cc)
+      each (by_receiver other) same = absurd (cc)
+      each unlisted same = absurd (cc)
+
+  pub passes_cuts : a.pattern ≡ pattern.PollOfCuts → MayPassKept kept r q a
+  passes_cuts is = by pattern.PollOfCuts is each
+    where
+      each : (p : Asked) → is_pattern pattern.PollOfCuts p ≡ true → MayPass (wild_of kept) r q a.rank p
+      each poll_of_cuts same = tt
+      each own same = absurd (cc)
+      each (send its to other) same = absurd (cc)
+      each receive same = absurd (cc)
+      each wait same = absurd (cc)
+      each poll same = absurd (cc)
+      each poll_of_sends same = absurd (cc)
+      each claim same = absurd (cc)
+      each initialisation same = absurd (cc)
+      each (by_sender other) same = absurd (cc)
+      each (by_receiver other) same = absurd (cc)
+      each unlisted same = absurd (cc)
+
+  pub passes_sender : (link : ℕ) → a.pattern ≡ pattern.BySender link → MayPassKept kept r q a
+  passes_sender link is = by (pattern.BySender link) is each
+    where
+      each : (p : Asked) → is_pattern (pattern.BySender link) p ≡ true → MayPass (wild_of kept) r q a.rank p
+      each (by_sender other) same = tt
+      each own same = absurd (cc)
+      each (send its to other) same = absurd (cc)
+      each receive same = absurd (cc)
+      each wait same = absurd (cc)
+      each poll same = absurd (cc)
+      each poll_of_sends same = absurd (cc)
+      each claim same = absurd (cc)
+      each initialisation same = absurd (cc)
+      each poll_of_cuts same = absurd (cc)
+      each (by_receiver other) same = absurd (cc)
+      each unlisted same = absurd (cc)
+
+  pub passes_receiver : (link : ℕ) → a.pattern ≡ pattern.ByReceiver link → MayPassKept kept r q a
+  passes_receiver link is = by (pattern.ByReceiver link) is each
+    where
+      each : (p : Asked) → is_pattern (pattern.ByReceiver link) p ≡ true → MayPass (wild_of kept) r q a.rank p
+      each (by_receiver other) same = tt
+      each own same = absurd (cc)
+      each (send its to other) same = absurd (cc)
+      each receive same = absurd (cc)
+      each wait same = absurd (cc)
+      each poll same = absurd (cc)
+      each poll_of_sends same = absurd (cc)
+      each claim same = absurd (cc)
+      each initialisation same = absurd (cc)
+      each poll_of_cuts same = absurd (cc)
+      each (by_sender other) same = absurd (cc)
+      each unlisted same = absurd (cc)
 
 -- ---- all of them
 
@@ -190,6 +280,88 @@ module _ (kept : List AskedBy) (r : ℕ) (q : Request) (n : ℕ) (before : MayPa
       of poll allowed = found poll allowed
       of poll_of_sends allowed = found poll_of_sends allowed
       of claim allowed = found claim allowed
+      of initialisation allowed = found initialisation allowed
+      of poll_of_cuts allowed = found poll_of_cuts allowed
+      of (by_sender link) allowed = found (by_sender link) allowed
+      of (by_receiver link) allowed = found (by_receiver link) allowed
+
+-- ---- turns at boxes
+
+-- the patterns of other ranks before this place
+abbrev pub MayMeetBelow : List AskedBy → ℕ → Ask → ℕ → Type 0
+MayMeetBelow kept r ask n = (i : ℕ) → i < n → (a : AskedBy) → slice_get kept i ≡ Some a → a.rank ≢ r → MayMeetKept ask a
+
+pub none_contests : (ask : Ask) → IsAtBox ask → MayMeet ask own × MayMeet ask wait
+none_contests (Ask.Ready link part bytes) at = (tt, tt)
+none_contests (Ask.Freed link part) at = (tt, tt)
+none_contests (Ask.Look link part) at = (tt, tt)
+none_contests _ at = absurd at
+
+module _ (kept : List AskedBy) (r : ℕ) (ask : Ask) (n : ℕ) (before : MayMeetBelow kept r ask n) where
+  pub meets_more : (a : AskedBy) → slice_get kept n ≡ Some a → (a.rank ≢ r → MayMeetKept ask a)
+      → MayMeetBelow kept r ask (n + 1)
+  meets_more a at here i low x there other = elim (cases_eq n i) [
+    | inl same ↦
+        let is : a ≡ x = same_Some a x (sym at ∙ subst (λ k. slice_get kept k ≡ Some x) (sym same) there) in
+        subst (λ y. MayMeetKept ask y) is (here (λ e. other (sym (ap (λ (y : AskedBy). y.rank) is) ∙ e)))
+    | inr apart ↦ before i (omega (arith, low, apart)) x there other
+  ]
+
+  pub meets_all : IsAtBox ask → length kept ≤ n → (s : ℕ) (p : Asked) → s ≢ r → IsAllowed (patterns_of kept) s p → MayMeet ask p
+  meets_all at all s p other allowed = of p allowed
+    where
+      found : (x : Asked) → patterns_of kept s x ≡ true → MayMeet ask x
+      found x has =
+          let v = of_any (λ (a : AskedBy). (a.rank == s) && is_pattern a.pattern x) kept has in
+          let parts = and_parts ((v.1).rank == s) (is_pattern (v.1).pattern x) v.3 in
+          let whose = eqb-true (v.1).rank s parts.0 in
+          let inside = slice_get_within kept v.0 v.1 v.2 in
+          before v.0 (omega (arith, inside, all)) v.1 v.2 (λ e. other (sym whose ∙ e)) x parts.1
+
+      of : (x : Asked) → IsAllowed (patterns_of kept) s x → MayMeet ask x
+      of own allowed = (none_contests ask at).0
+      of wait allowed = (none_contests ask at).1
+      of unlisted allowed = absurd allowed
+      of (send sync dest comm) allowed = found (send sync dest comm) allowed
+      of receive allowed = found receive allowed
+      of poll allowed = found poll allowed
+      of poll_of_sends allowed = found poll_of_sends allowed
+      of claim allowed = found claim allowed
+      of initialisation allowed = found initialisation allowed
+      of poll_of_cuts allowed = found poll_of_cuts allowed
+      of (by_sender link) allowed = found (by_sender link) allowed
+      of (by_receiver link) allowed = found (by_receiver link) allowed
+
+-- ---- sides of links
+
+-- the patterns before this place
+abbrev pub AreOnSidesBelow : List Link → List AskedBy → ℕ → Type 0
+AreOnSidesBelow links kept n = (i : ℕ) → i < n → (a : AskedBy) → slice_get kept i ≡ Some a → IsOnSide links a
+
+module _ (links : List Link) (kept : List AskedBy) (n : ℕ) (before : AreOnSidesBelow links kept n) where
+  pub sides_more : (a : AskedBy) → slice_get kept n ≡ Some a → IsOnSide links a → AreOnSidesBelow links kept (n + 1)
+  sides_more a at here i low x there = elim (cases_eq n i) [
+    | inl same ↦
+        subst (IsOnSide links)
+        (same_Some a x (sym at ∙ subst (λ k. slice_get kept k ≡ Some x) (sym same) there)) here
+    | inr apart ↦ before i (omega (arith, low, apart)) x there
+  ]
+
+  pub sides_all : length kept ≤ n → AreOnSides links (patterns_of kept)
+  sides_all all = record {
+    senders = λ r link has. (let f = found r (by_sender link) has in
+        subst (λ k. sends_over links link k ≡ true) f.1 ((f.2).0 link f.3));
+    receivers = λ r link has. (let f = found r (by_receiver link) has in
+        subst (λ k. is_receiver links k link ≡ true) f.1 ((f.2).1 link f.3));
+  }
+    where
+      found : (r : ℕ) (p : Asked) → patterns_of kept r p ≡ true
+          → (a : AskedBy) × (a.rank ≡ r) × IsOnSide links a × (is_pattern a.pattern p ≡ true)
+      found r p has =
+          let v = of_any (λ (a : AskedBy). (a.rank == r) && is_pattern a.pattern p) kept has in
+          let parts = and_parts ((v.1).rank == r) (is_pattern (v.1).pattern p) v.3 in
+          let inside = slice_get_within kept v.0 v.1 v.2 in
+          (v.1, eqb-true (v.1).rank r parts.0, before v.0 (omega (arith, inside, all)) v.1 v.2, parts.1)
 
 -- ---- patterns that are added
 
@@ -215,36 +387,100 @@ wanted_is (pattern.Send sync dest comm) pattern.Poll is = absurd (cc)
 wanted_is (pattern.Send sync dest comm) pattern.PollOfSends is = absurd (cc)
 wanted_is (pattern.Send sync dest comm) pattern.Claim is = absurd (cc)
 wanted_is (pattern.Send sync dest comm) (pattern.AnySource other) is = absurd (cc)
+wanted_is (pattern.Send sync dest comm) pattern.Initialisation is = absurd (cc)
+wanted_is (pattern.Send sync dest comm) pattern.PollOfCuts is = absurd (cc)
+wanted_is (pattern.Send sync dest comm) (pattern.BySender other) is = absurd (cc)
+wanted_is (pattern.Send sync dest comm) (pattern.ByReceiver other) is = absurd (cc)
 wanted_is pattern.Receive (pattern.Send its to other) is = absurd (cc)
 wanted_is pattern.Receive pattern.Receive is = refl
 wanted_is pattern.Receive pattern.Poll is = absurd (cc)
 wanted_is pattern.Receive pattern.PollOfSends is = absurd (cc)
 wanted_is pattern.Receive pattern.Claim is = absurd (cc)
 wanted_is pattern.Receive (pattern.AnySource other) is = absurd (cc)
+wanted_is pattern.Receive pattern.Initialisation is = absurd (cc)
+wanted_is pattern.Receive pattern.PollOfCuts is = absurd (cc)
+wanted_is pattern.Receive (pattern.BySender other) is = absurd (cc)
+wanted_is pattern.Receive (pattern.ByReceiver other) is = absurd (cc)
 wanted_is pattern.Poll (pattern.Send its to other) is = absurd (cc)
 wanted_is pattern.Poll pattern.Receive is = absurd (cc)
 wanted_is pattern.Poll pattern.Poll is = refl
 wanted_is pattern.Poll pattern.PollOfSends is = absurd (cc)
 wanted_is pattern.Poll pattern.Claim is = absurd (cc)
 wanted_is pattern.Poll (pattern.AnySource other) is = absurd (cc)
+wanted_is pattern.Poll pattern.Initialisation is = absurd (cc)
+wanted_is pattern.Poll pattern.PollOfCuts is = absurd (cc)
+wanted_is pattern.Poll (pattern.BySender other) is = absurd (cc)
+wanted_is pattern.Poll (pattern.ByReceiver other) is = absurd (cc)
 wanted_is pattern.PollOfSends (pattern.Send its to other) is = absurd (cc)
 wanted_is pattern.PollOfSends pattern.Receive is = absurd (cc)
 wanted_is pattern.PollOfSends pattern.Poll is = absurd (cc)
 wanted_is pattern.PollOfSends pattern.PollOfSends is = refl
 wanted_is pattern.PollOfSends pattern.Claim is = absurd (cc)
 wanted_is pattern.PollOfSends (pattern.AnySource other) is = absurd (cc)
+wanted_is pattern.PollOfSends pattern.Initialisation is = absurd (cc)
+wanted_is pattern.PollOfSends pattern.PollOfCuts is = absurd (cc)
+wanted_is pattern.PollOfSends (pattern.BySender other) is = absurd (cc)
+wanted_is pattern.PollOfSends (pattern.ByReceiver other) is = absurd (cc)
 wanted_is pattern.Claim (pattern.Send its to other) is = absurd (cc)
 wanted_is pattern.Claim pattern.Receive is = absurd (cc)
 wanted_is pattern.Claim pattern.Poll is = absurd (cc)
 wanted_is pattern.Claim pattern.PollOfSends is = absurd (cc)
 wanted_is pattern.Claim pattern.Claim is = refl
 wanted_is pattern.Claim (pattern.AnySource other) is = absurd (cc)
+wanted_is pattern.Claim pattern.Initialisation is = absurd (cc)
+wanted_is pattern.Claim pattern.PollOfCuts is = absurd (cc)
+wanted_is pattern.Claim (pattern.BySender other) is = absurd (cc)
+wanted_is pattern.Claim (pattern.ByReceiver other) is = absurd (cc)
 wanted_is (pattern.AnySource comm) (pattern.Send its to other) is = absurd (cc)
 wanted_is (pattern.AnySource comm) pattern.Receive is = absurd (cc)
 wanted_is (pattern.AnySource comm) pattern.Poll is = absurd (cc)
 wanted_is (pattern.AnySource comm) pattern.PollOfSends is = absurd (cc)
 wanted_is (pattern.AnySource comm) pattern.Claim is = absurd (cc)
 wanted_is (pattern.AnySource comm) (pattern.AnySource other) is = ap (λ c. pattern.AnySource c) (eqb-true other comm is)
+wanted_is (pattern.AnySource comm) pattern.Initialisation is = absurd (cc)
+wanted_is (pattern.AnySource comm) pattern.PollOfCuts is = absurd (cc)
+wanted_is (pattern.AnySource comm) (pattern.BySender other) is = absurd (cc)
+wanted_is (pattern.AnySource comm) (pattern.ByReceiver other) is = absurd (cc)
+wanted_is pattern.Initialisation (pattern.Send its to other) is = absurd (cc)
+wanted_is pattern.Initialisation pattern.Receive is = absurd (cc)
+wanted_is pattern.Initialisation pattern.Poll is = absurd (cc)
+wanted_is pattern.Initialisation pattern.PollOfSends is = absurd (cc)
+wanted_is pattern.Initialisation pattern.Claim is = absurd (cc)
+wanted_is pattern.Initialisation (pattern.AnySource other) is = absurd (cc)
+wanted_is pattern.Initialisation pattern.Initialisation is = refl
+wanted_is pattern.Initialisation pattern.PollOfCuts is = absurd (cc)
+wanted_is pattern.Initialisation (pattern.BySender other) is = absurd (cc)
+wanted_is pattern.Initialisation (pattern.ByReceiver other) is = absurd (cc)
+wanted_is pattern.PollOfCuts (pattern.Send its to other) is = absurd (cc)
+wanted_is pattern.PollOfCuts pattern.Receive is = absurd (cc)
+wanted_is pattern.PollOfCuts pattern.Poll is = absurd (cc)
+wanted_is pattern.PollOfCuts pattern.PollOfSends is = absurd (cc)
+wanted_is pattern.PollOfCuts pattern.Claim is = absurd (cc)
+wanted_is pattern.PollOfCuts (pattern.AnySource other) is = absurd (cc)
+wanted_is pattern.PollOfCuts pattern.Initialisation is = absurd (cc)
+wanted_is pattern.PollOfCuts pattern.PollOfCuts is = refl
+wanted_is pattern.PollOfCuts (pattern.BySender other) is = absurd (cc)
+wanted_is pattern.PollOfCuts (pattern.ByReceiver other) is = absurd (cc)
+wanted_is (pattern.BySender link) (pattern.Send its to other) is = absurd (cc)
+wanted_is (pattern.BySender link) pattern.Receive is = absurd (cc)
+wanted_is (pattern.BySender link) pattern.Poll is = absurd (cc)
+wanted_is (pattern.BySender link) pattern.PollOfSends is = absurd (cc)
+wanted_is (pattern.BySender link) pattern.Claim is = absurd (cc)
+wanted_is (pattern.BySender link) (pattern.AnySource other) is = absurd (cc)
+wanted_is (pattern.BySender link) pattern.Initialisation is = absurd (cc)
+wanted_is (pattern.BySender link) pattern.PollOfCuts is = absurd (cc)
+wanted_is (pattern.BySender link) (pattern.BySender other) is = ap (λ c. pattern.BySender c) (eqb-true other link is)
+wanted_is (pattern.BySender link) (pattern.ByReceiver other) is = absurd (cc)
+wanted_is (pattern.ByReceiver link) (pattern.Send its to other) is = absurd (cc)
+wanted_is (pattern.ByReceiver link) pattern.Receive is = absurd (cc)
+wanted_is (pattern.ByReceiver link) pattern.Poll is = absurd (cc)
+wanted_is (pattern.ByReceiver link) pattern.PollOfSends is = absurd (cc)
+wanted_is (pattern.ByReceiver link) pattern.Claim is = absurd (cc)
+wanted_is (pattern.ByReceiver link) (pattern.AnySource other) is = absurd (cc)
+wanted_is (pattern.ByReceiver link) pattern.Initialisation is = absurd (cc)
+wanted_is (pattern.ByReceiver link) pattern.PollOfCuts is = absurd (cc)
+wanted_is (pattern.ByReceiver link) (pattern.BySender other) is = absurd (cc)
+wanted_is (pattern.ByReceiver link) (pattern.ByReceiver other) is = ap (λ c. pattern.ByReceiver c) (eqb-true other link is)
 
 here : (xs : List AskedBy) (i : ℕ) (none : AskedBy) → i < length xs → slice_get xs i ≡ Some (get_or xs i none)
 here [] i none low = absurd (omega (arith, low))

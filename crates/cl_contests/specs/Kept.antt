@@ -3,7 +3,7 @@ use Rattle.std.specs.Prelude.{ℕ, ◌==◌, ◌&&◌, Bool, true, false, not, L
 use Rattle.std.specs.List.{list_any}
 use Rattle.mp_source_laws.specs.Alike.{Wild}
 use Rattle.cl_reduction_laws.specs.Clusters.{Search}
-use Rattle.cl_reduction_laws.specs.Patterns.{Pattern as Asked, Patterns, claim, poll, poll_of_sends, receive, send}
+use Rattle.cl_reduction_laws.specs.Patterns.{Pattern as Asked, Patterns, by_receiver, by_sender, claim, initialisation, poll, poll_of_cuts, poll_of_sends, receive, send}
 use Rattle.cl_contests.specs.declared.patterns.AskedBy.{AskedBy}
 use Rattle.cl_contests.specs.declared.patterns.Pattern.{Pattern}
 use Rattle.cl_contests.specs.declared.patterns.Pattern.TheVariants as pattern
@@ -19,6 +19,10 @@ is_pattern pattern.Receive receive = true
 is_pattern pattern.Poll poll = true
 is_pattern pattern.PollOfSends poll_of_sends = true
 is_pattern pattern.Claim claim = true
+is_pattern pattern.Initialisation initialisation = true
+is_pattern pattern.PollOfCuts poll_of_cuts = true
+is_pattern (pattern.BySender link) (by_sender other) = link == other
+is_pattern (pattern.ByReceiver link) (by_receiver other) = link == other
 is_pattern _ _ = false
 
 -- it is a receive or a probe of any source in this communicator

@@ -1,23 +1,27 @@
 -- A rank that can go on where no other rank can.
 use Rattle.std.specs.Prelude.{ℕ, ◌<◌, ◌≡◌, ◌≢◌, ◌⊎◌, true, slice_get, Option, Some, None}
 use Rattle.mp_types.specs.declared.requests.Request.{Request}
-use Rattle.mp_hub.specs.Vain.{asks_in_vain}
 use Rattle.cl_state.specs.declared.asking.Ask.{Ask}
 use Rattle.cl_state.specs.declared.state.RankState.{RankState}
 use Rattle.cl_state.specs.Asked.{asked, doing, part_of}
 use Rattle.cl_state.specs.Room.{rank_of}
 use Rattle.cl_state_laws.specs.Vain.{IsStopped, mode_of, waits_on}
+use Rattle.rv_image_types.specs.declared.images.ImageParts.{ImageParts}
 use Rattle.cl_machine.specs.declared.steps.Step.{Step}
+use Rattle.cl_machine.specs.Cluster.{Cluster}
+use Rattle.cl_order_laws.specs.Closed.{IsInVain}
+use Rattle.cl_replay.specs.States.{ClusterStandsFor}
 use Rattle.cl_moves.specs.declared.standing.Standing.{Standing}
 use Rattle.cl_reduction_laws.specs.Clusters.{Search}
-use Rattle.cl_contests.specs.Turns.{IsFirstTurn}
+use Rattle.cl_contests.specs.Turns.{IsFirstTurn, IsMeetingTurn}
 
 -- the rank's first hart is stopped, or makes a call anew, in vain
 abbrev pub IsStillIn : Standing → ℕ → RankState → Type 0
 IsStillIn standing r own =
     IsStopped (mode_of (rank_of own) 0)
-    ⊎ ((q : Request) × (asked (rank_of own) 0 ≡ Ask.Hub q) × (waits_on (doing own.site (part_of (rank_of own) 0)) ≡ true)
-    × (asks_in_vain standing.cluster.hub r q ≡ true))
+    ⊎ ((waits_on (doing own.site (part_of (rank_of own) 0)) ≡ true)
+    × ((image : ImageParts) (cluster : Cluster) → ClusterStandsFor image standing.cluster cluster
+    → IsInVain cluster r (asked (rank_of own) 0)))
 
 -- each other rank is
 abbrev pub IsLoneRank : Standing → ℕ → Type 0
@@ -59,4 +63,5 @@ IsLoneNext standing (Some e) = IsLoneTurn standing e
 -- the next turn of a rank that goes first
 abbrev pub IsNextTurn : Search → Standing → Option Step → Type 0
 IsNextTurn search standing None = Unit {0}
-IsNextTurn search standing (Some e) = IsFirstTurn search standing e ⊎ IsLoneTurn standing e
+IsNextTurn search standing (Some e) =
+    IsFirstTurn search standing e ⊎ (IsMeetingTurn search standing e ⊎ IsLoneTurn standing e)

@@ -19,7 +19,7 @@ use Rattle.cl_moves.specs.Standing.{StandsAt}
 use Rattle.cl_moves.specs.Sure.{IsReadyKind}
 use Rattle.cl_moves.specs.declared.standing.Standing.{Standing}
 use Rattle.cl_reduction_laws.specs.Clusters.{Search, awake_cluster}
-use Rattle.cl_reduction_laws.specs.Patterns.{IsAllowed, MayPass, Pattern, pattern_of}
+use Rattle.cl_reduction_laws.specs.Patterns.{IsAllowed, MayMeet, MayPass, Pattern, pattern_of}
 use Rattle.cl_reduction_laws.specs.Settled.{AllWithin}
 use Rattle.cl_contests.specs.declared.patterns.AskedBy.{AskedBy}
 use Rattle.cl_contests.specs.Going.{IsFirstHart, LeadsOn, SettlesFrom}
@@ -99,6 +99,45 @@ abbrev pub GoesWithin : Search → Standing → Standing → Bool → Type 0
 GoesWithin search old new within =
     within ≡ true → (order : List ℕ) → IsFirstHart order → LeadsOn order old new (SettlesFrom search)
 
+-- ---- turns at boxes
+
+-- a turn that fills or empties a box, or finds it empty
+abbrev pub IsFilling : Kind → Type 0
+IsFilling Kind.Ready = Unit {0}
+IsFilling Kind.Take = Unit {0}
+IsFilling Kind.Freed = Unit {0}
+IsFilling _ = ⊥
+
+-- a partition is made ready
+abbrev pub IsMaking : Ask → Type 0
+IsMaking (Ask.Ready link part bytes) = Unit {0}
+IsMaking _ = ⊥
+
+-- the rank makes a partition ready, or makes its call anew until a partition came or was taken; and no other rank is on the
+-- same side of the link
+pub record IsMeeting (search : Search) (r : ℕ) (own : RankState) : Type 0 where
+  pub waits : IsMaking (asked (rank_of own) 0) ⊎ (waits_on (doing own.site (part_of (rank_of own) 0)) ≡ true)
+  pub pass : (s : ℕ) (p : Pattern) → s ≢ r → IsAllowed search.patterns s p → MayMeet (asked (rank_of own) 0) p
+
+-- the next turn of such a rank, which finds what it asks for
+pub record IsMeetingTurn (search : Search) (standing : Standing) (e : Step) : Type 0 where
+  pub own : RankState
+  pub there : slice_get standing.cluster.ranks.items e.rank ≡ Some own
+  pub hart_is : e.hart ≡ 0
+  pub fills : IsFilling e.kind
+  pub meets : IsMeeting search e.rank own
+
+-- of a turn that asks this, by what it was found to be
+abbrev pub IsMeetingCall : Search → ℕ → Bool → Ask → Option Step → Type 0
+IsMeetingCall search rank waits ask None = Unit {0}
+IsMeetingCall search rank waits ask (Some e) =
+    (e.rank ≡ rank) × (e.hart ≡ 0) × IsFilling e.kind × (IsMaking ask ⊎ (waits ≡ true))
+    × ((s : ℕ) (p : Pattern) → s ≢ rank → IsAllowed search.patterns s p → MayMeet ask p)
+
+abbrev pub IsMeetingNext : Search → Standing → Option Step → Type 0
+IsMeetingNext search standing None = Unit {0}
+IsMeetingNext search standing (Some e) = IsMeetingTurn search standing e
+
 -- ---- polls of what isn't there
 
 -- the next turn of a rank, which makes a call that is made anew until there is something, and is told that nothing is there
@@ -107,7 +146,7 @@ pub record IsVainTurn (standing : Standing) (e : Step) : Type 0 where
   pub there : slice_get standing.cluster.ranks.items e.rank ≡ Some own
   pub hart_is : e.hart ≡ 0
   pub on : waits_on (doing own.site (part_of (rank_of own) 0)) ≡ true
-  pub kind_is : e.kind ≡ Kind.Hub NotYet
+  pub kind_is : (e.kind ≡ Kind.Hub NotYet) ⊎ (e.kind ≡ Kind.Miss)
 
 abbrev pub IsVainNext : Standing → Option Step → Type 0
 IsVainNext standing None = Unit {0}
@@ -115,7 +154,7 @@ IsVainNext standing (Some e) = IsVainTurn standing e
 
 abbrev pub IsVainCall : ℕ → Option Step → Type 0
 IsVainCall rank None = Unit {0}
-IsVainCall rank (Some e) = (e.rank ≡ rank) × (e.hart ≡ 0) × (e.kind ≡ Kind.Hub NotYet)
+IsVainCall rank (Some e) = (e.rank ≡ rank) × (e.hart ≡ 0) × ((e.kind ≡ Kind.Hub NotYet) ⊎ (e.kind ≡ Kind.Miss))
 
 -- the same but for who is awake, by each order that names the first hart alone, and in each search
 abbrev pub GoesInVain : Standing → Standing → Bool → Type 0

@@ -6,10 +6,12 @@ ghost use Rattle.cl_trace.specs.declared.events.Kind.{Kind};
 ghost use Rattle.cl_state_laws.specs.Vain.{waits_on};
 ghost use Rattle.cl_order_laws.specs.SureAsks.{IsReady};
 ghost use Rattle.cl_moves.specs.Sure.{IsReadyKind};
+ghost use Rattle.cl_contests.specs.Turns.{IsFilling};
 
 use cl_calls::Call;
 use cl_machine::{KindRef, Step};
 use cl_state::Doing;
+use cl_trace::Bare;
 use mp_types::{Reply, Request};
 
 /// Whether the turn is made anew where nothing is there.
@@ -32,6 +34,7 @@ pub(crate) fn is_look(request: &Request) -> bool {
             | Request::Finished { .. }
             | Request::All { .. }
             | Request::Probe { .. }
+            | Request::Cut { .. }
     )
 }
 
@@ -44,6 +47,7 @@ fn is_ready(request: &Request, reply: &Reply) -> bool
         (Request::Finished { .. }, Reply::Done) => true,
         (Request::All { .. }, Reply::AllGot(_)) => true,
         (Request::Probe { .. }, Reply::Seen(_)) => true,
+        (Request::Cut { .. }, Reply::Cut { .. }) => true,
         _ => false,
     }
 }
@@ -55,6 +59,16 @@ pub(crate) fn is_ready_turn(turn: &Step, request: &Request) -> bool
     match turn.kind() {
         KindRef::Hub(reply) => is_ready(request, reply),
         KindRef::Bare(_) => false,
+    }
+}
+
+/// Whether the turn found at a box what it asks for.
+pub(crate) fn is_found_turn(turn: &Step) -> bool
+    ensures { IsTrue result → IsFilling turn.now.kind }
+{
+    match turn.kind() {
+        KindRef::Bare(Bare::Ready) | KindRef::Bare(Bare::Take) | KindRef::Bare(Bare::Freed) => true,
+        _ => false,
     }
 }
 

@@ -4,15 +4,16 @@ ghost use Rattle.std.specs.Prelude.{◌≡◌, IfOk, true};
 ghost use Rattle.cl_contests.specs.Going.{GoesFirstOn};
 ghost use Rattle.cl_contests.specs.Kept.{search_of};
 ghost use Rattle.cl_contests.specs.Lone.{IsNextTurn};
-ghost use Rattle.cl_contests.specs.Turns.{AsksWithin, GoesWithin, IsFirstCall, IsFirstNext, TellsWithin};
+ghost use Rattle.cl_contests.specs.Turns.{AsksWithin, GoesWithin, IsFirstCall, IsFirstNext, IsMeetingCall, IsMeetingNext};
+ghost use Rattle.cl_contests.specs.Turns.{TellsWithin};
 
 use crate::alone::all_alone;
-use crate::asking::{is_look, is_made_anew, is_ready_turn};
+use crate::asking::{is_found_turn, is_look, is_made_anew, is_ready_turn};
 use crate::lone::next_lone;
 use crate::patterns::Patterns;
 use crate::polls::poll_all;
 use cl_machine::{KindRef, Step};
-use cl_moves::{MoveFault, Standing, turns_of};
+use cl_moves::{MoveFault, Standing, is_in_vain, turns_of};
 use cl_state::{Ask, RankState};
 use mp_types::{Reply, Request};
 use std::alloc::Global;
@@ -122,6 +123,76 @@ fn first_of(
     }
 }
 
+/// The turn of a rank that asks this at a box, if it finds what it asks for and no other rank is on the same side of the link. A
+/// look that goes on where nothing is there has two turns, so it isn't among them.
+fn meeting_of(
+    alloc: Global,
+    standing: &Standing,
+    rank: u8,
+    waits: bool,
+    ask: &Ask,
+    patterns: &Patterns,
+) -> Result<Option<Step>, MoveFault>
+    ensures { IfOk result (IsMeetingCall (search_of patterns.now.kept.items) rank waits ask.now) }
+{
+    let may = match ask {
+        Ask::Ready { .. } => true,
+        Ask::Look { .. } | Ask::Freed { .. } => waits && !is_in_vain(&standing.cluster, rank, ask),
+        _ => false,
+    };
+    if !may || !patterns.may_meet(rank, ask) {
+        return Ok(None);
+    }
+    let mut turns = turns_of(alloc, &standing.cluster, rank, 0)?;
+    let Some(turn) = turns.pop() else {
+        return Ok(None);
+    };
+    if is_found_turn(&turn) {
+        Ok(Some(turn))
+    } else {
+        Ok(None)
+    }
+}
+
+/// The next turn of a rank, if it is such a turn at a box.
+fn next_meeting(
+    alloc: Global,
+    standing: &Standing,
+    rank: u8,
+    patterns: &Patterns,
+) -> Result<Option<Step>, MoveFault>
+    ensures { IfOk result (IsMeetingNext (search_of patterns.now.kept.items) standing.now) }
+{
+    let place = usize::from(rank);
+    if place >= standing.cluster.ranks.len() {
+        return Ok(None);
+    }
+    let own = &standing.cluster.ranks[place];
+    if own.harts.len() == 0 {
+        return Ok(None);
+    }
+    let doing = own.next(0);
+    let waits = is_made_anew(&doing);
+    let ask = own.ask_next(0, &doing)?;
+    meeting_of(alloc, standing, rank, waits, &ask, patterns)
+}
+
+/// The next turn of the first rank that meets a box so, if one does.
+fn first_meeting(
+    alloc: Global,
+    standing: &Standing,
+    patterns: &Patterns,
+) -> Result<Option<Step>, MoveFault>
+    ensures { IfOk result (IsMeetingNext (search_of patterns.now.kept.items) standing.now) }
+{
+    for rank in 0..8u8 {
+        if let Some(turn) = next_meeting(alloc, standing, rank, patterns)? {
+            return Ok(Some(turn));
+        }
+    }
+    Ok(None)
+}
+
 /// The next turn of the first rank that makes such a call, if one does.
 fn next_first(
     alloc: Global,
@@ -147,6 +218,9 @@ fn next_turn(
     ensures { IfOk result (IsNextTurn (search_of patterns.now.kept.items) standing.now) }
 {
     if let Some(turn) = next_first(alloc, standing, patterns)? {
+        return Ok(Some(turn));
+    }
+    if let Some(turn) = first_meeting(alloc, standing, patterns)? {
         return Ok(Some(turn));
     }
     next_lone(alloc, standing)

@@ -16,7 +16,7 @@ ghost use Rattle.cl_contests.specs.Going.{TellsFit};
 use crate::asking::is_made_anew;
 use crate::patterns::Patterns;
 use crate::starts::waits_within;
-use cl_moves::{MoveFault, Standing};
+use cl_moves::{MoveFault, Standing, is_in_vain};
 use cl_replay::ClusterState;
 use cl_state::{Ask, RankState, is_ecall};
 use mp_alike::WholeHub;
@@ -49,17 +49,6 @@ fn is_waiting(own: &RankState) -> bool
     ensures { IsTrue result → IsWaiting (mode_of (rank_of own.now) 0) }
 {
     matches!(own.harts[0].mode(), Mode::Waiting(_))
-}
-
-/// Whether the hub has nothing of what is asked.
-fn is_in_vain(state: &ClusterState, rank: u8, ask: &Ask) -> bool
-    ensures { IsTrue result → (image : ImageParts) (cluster : Cluster) → ClusterStandsFor image state.now cluster
-        → IsInVain cluster rank ask.now }
-{
-    match ask {
-        Ask::Hub(request) => state.hub.asks_in_vain(rank, request),
-        _ => false,
-    }
 }
 
 /// Whether what is asked is a claim that finds its message.
@@ -128,6 +117,9 @@ pub fn is_fit(standing: &Standing, patterns: &Patterns) -> Result<bool, MoveFaul
     let count = state.ranks.len();
     // an image has at most 8 ranks
     if count > 255 || !has_room(&standing.whole) || !waits_within(&standing.whole, patterns) {
+        return Ok(false);
+    }
+    if !patterns.are_on_sides(standing.whole.links()) {
         return Ok(false);
     }
     for rank in 0..count {

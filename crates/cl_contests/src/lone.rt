@@ -5,7 +5,7 @@ ghost use Rattle.cl_contests.specs.Lone.{IsLoneIfSome, IsLoneNext, IsStillIn, Is
 
 use crate::asking::is_made_anew;
 use cl_machine::Step;
-use cl_moves::{MoveFault, Standing, turns_of};
+use cl_moves::{MoveFault, Standing, is_in_vain, turns_of};
 use cl_state::{Ask, RankState};
 use mp_types::Request;
 use rv_hart::Mode;
@@ -25,10 +25,8 @@ fn is_still(standing: &Standing, rank: u8, own: &RankState) -> Result<bool, Move
     if !is_made_anew(&doing) {
         return Ok(false);
     }
-    match own.ask_next(0, &doing)? {
-        Ask::Hub(request) => Ok(standing.cluster.hub.asks_in_vain(rank, &request)),
-        _ => Ok(false),
-    }
+    let ask = own.ask_next(0, &doing)?;
+    Ok(is_in_vain(&standing.cluster, rank, &ask))
 }
 
 /// The rank that isn't still, if it is the only one.

@@ -5,13 +5,18 @@ ghost use Rattle.mp_types.specs.declared.requests.Request.TheVariants as calls;
 ghost use Rattle.mp_source_laws.specs.Laws.{AsksFrom, AsksWithin};
 ghost use Rattle.mp_clash_laws.specs.Exchanges.{BringsNothing, IsPosting, NoRace, NoSync};
 ghost use Rattle.cl_reduction_laws.specs.Below.{AskWithin};
-ghost use Rattle.cl_reduction_laws.specs.Patterns.{IsAllowed, MayPass, Pattern as Asked, pattern_of_ask, pattern_of_request};
-ghost use Rattle.cl_reduction_laws.specs.Patterns.{poll, poll_of_sends, wait};
+ghost use Rattle.cl_reduction_laws.specs.Patterns.{IsAllowed, MayMeet, MayPass, Pattern as Asked, at_box, pattern_of_ask};
+ghost use Rattle.cl_reduction_laws.specs.Patterns.{by_receiver, by_sender, pattern_of_request, poll, poll_of_cuts};
+ghost use Rattle.cl_reduction_laws.specs.Patterns.{poll_of_sends, wait};
+ghost use Rattle.cl_reduction_laws.specs.Settled.{AreOnSides};
+ghost use Rattle.cl_reduction_laws.specs.Clusters.{IsAtBox};
 ghost use Rattle.cl_contests.specs.Kept.{is_same_bool, patterns_of, wild_of};
-ghost use Rattle.cl_contests.specs.Passing.{Keeps, MayPassKept, has_pattern, is_wanted as is_wanted_of};
+ghost use Rattle.cl_contests.specs.Passing.{IsOnSide, Keeps, MayMeetKept, MayPassKept, has_pattern};
+ghost use Rattle.cl_contests.specs.Passing.{is_wanted as is_wanted_of};
 
 use cl_state::Ask;
 use mp_types::Request;
+use rv_image_types::Link;
 use std::alloc::{AllocError, Global};
 
 /// What a rank asks for in a turn that another rank may contest.
@@ -29,6 +34,14 @@ pub enum Pattern {
     Claim,
     /// A receive or a probe of any source in this communicator.
     AnySource { comm: u8 },
+    /// PSEND_INIT or PRECV_INIT.
+    Initialisation,
+    /// The question how a sender cut its transfer: where that isn't known the rank goes on.
+    PollOfCuts,
+    /// PREADY of a partition of this link, or the question whether one was taken.
+    BySender { link: u8 },
+    /// A look at a partition of this link.
+    ByReceiver { link: u8 },
 }
 
 /// A pattern, and the rank that asks so.
@@ -62,6 +75,10 @@ fn is_wanted(wanted: Pattern, kept: Pattern) -> bool
         (Pattern::PollOfSends, Pattern::PollOfSends) => true,
         (Pattern::Claim, Pattern::Claim) => true,
         (Pattern::AnySource { comm: other }, Pattern::AnySource { comm }) => comm == other,
+        (Pattern::Initialisation, Pattern::Initialisation) => true,
+        (Pattern::PollOfCuts, Pattern::PollOfCuts) => true,
+        (Pattern::BySender { link: other }, Pattern::BySender { link }) => link == other,
+        (Pattern::ByReceiver { link: other }, Pattern::ByReceiver { link }) => link == other,
         _ => false,
     }
 }
@@ -104,6 +121,35 @@ fn brings_nothing(request: &Request, other: u8, of_sends: bool) -> bool
         Request::Send { dest, .. } => *dest != other,
         Request::Recv { .. } => !of_sends,
         _ => false,
+    }
+}
+
+/// Whether a turn at a box may go before what is asked by this pattern of another rank: that isn't on the same side of its link.
+fn may_meet_kept(ask: &Ask, other: &AskedBy) -> bool
+    ensures { IsTrue result → MayMeetKept ask.now other.now }
+{
+    match (ask, other.pattern) {
+        (Ask::Ready { link, .. }, Pattern::BySender { link: its }) => *link != its,
+        (Ask::Freed { link, .. }, Pattern::BySender { link: its }) => *link != its,
+        (Ask::Look { link, .. }, Pattern::ByReceiver { link: its }) => *link != its,
+        _ => true,
+    }
+}
+
+/// Whether a rank that may meet boxes of a link as its sender is the link's sender, or as its receiver its receiver.
+fn is_on_side(links: &[Link], asked: &AskedBy) -> bool
+    ensures { IsTrue result → IsOnSide links.now asked.now }
+{
+    match asked.pattern {
+        Pattern::BySender { link } => match links.get(usize::from(link)) {
+            Some(its) => its.from == asked.rank,
+            None => false,
+        },
+        Pattern::ByReceiver { link } => match links.get(usize::from(link)) {
+            Some(its) => its.to == asked.rank,
+            None => false,
+        },
+        _ => true,
     }
 }
 
@@ -151,6 +197,27 @@ impl Patterns {
         waits || self.has(rank, Pattern::PollOfSends)
     }
 
+    /// Whether it may ask so how a sender cut its transfer.
+    fn allow_poll_of_cuts(&self, rank: u8, waits: bool) -> bool
+        ensures { IsTrue result → IsAllowed (patterns_of self.now.kept.items) rank (cond waits wait poll_of_cuts) }
+    {
+        waits || self.has(rank, Pattern::PollOfCuts)
+    }
+
+    /// Whether the rank may meet a box of this link as its sender, if the link has such a box.
+    fn allow_sender(&self, rank: u8, link: u8, part: u8) -> bool
+        ensures { IsTrue result → IsAllowed (patterns_of self.now.kept.items) rank (at_box part (by_sender link)) }
+    {
+        part < 16 && self.has(rank, Pattern::BySender { link })
+    }
+
+    /// Whether it may meet one as its receiver.
+    fn allow_receiver(&self, rank: u8, link: u8, part: u8) -> bool
+        ensures { IsTrue result → IsAllowed (patterns_of self.now.kept.items) rank (at_box part (by_receiver link)) }
+    {
+        part < 16 && self.has(rank, Pattern::ByReceiver { link })
+    }
+
     /// Whether the rank may ask in the communicator for a message of this source, or of any.
     pub(crate) fn allow_source(&self, rank: u8, comm: u8, source: Option<u8>) -> bool
         ensures { IsTrue result → AsksFrom (wild_of self.now.kept.items) rank comm source }
@@ -195,7 +262,8 @@ impl Patterns {
                 self.has(rank, Pattern::Claim) && self.allow_source(rank, *comm, *source)
             }
             Request::Claimed { .. } => self.has(rank, Pattern::Claim),
-            _ => false,
+            Request::Init { .. } => self.has(rank, Pattern::Initialisation),
+            Request::Cut { .. } => self.allow_poll_of_cuts(rank, waits),
         }
     }
 
@@ -207,7 +275,11 @@ impl Patterns {
         match ask {
             Ask::Plain | Ask::Local | Ask::Idle => true,
             Ask::Hub(request) => self.allow_request(rank, waits, request),
-            _ => false,
+            Ask::Ready { link, part, .. } | Ask::Freed { link, part } => {
+                self.allow_sender(rank, *link, *part)
+            }
+            Ask::Look { link, part } => self.allow_receiver(rank, *link, *part),
+            Ask::Held => false,
         }
     }
 
@@ -242,6 +314,8 @@ impl Patterns {
             Pattern::PollOfSends => brings_nothing(request, other.rank, true),
             Pattern::Claim => false,
             Pattern::AnySource { .. } => true,
+            Pattern::Initialisation | Pattern::PollOfCuts => true,
+            Pattern::BySender { .. } | Pattern::ByReceiver { .. } => true,
         }
     }
 
@@ -256,6 +330,32 @@ impl Patterns {
         }
         for other in self.kept.as_slice() {
             if other.rank != rank && !self.may_pass_kept(rank, request, other) {
+                return false;
+            }
+        }
+        true
+    }
+
+    /// Whether a turn of the rank at a box may go before whatever the other ranks may ask: none of them is on the same side of
+    /// its link.
+    pub(crate) fn may_meet(&self, rank: u8, ask: &Ask) -> bool
+        ensures { IsTrue result → IsAtBox ask.now → (s : ℕ) (p : Asked) → s ≢ rank
+            → IsAllowed (patterns_of self.now.kept.items) s p → MayMeet ask.now p }
+    {
+        for other in self.kept.as_slice() {
+            if other.rank != rank && !may_meet_kept(ask, other) {
+                return false;
+            }
+        }
+        true
+    }
+
+    /// Whether who may be the sender on one of these links is its sender, and who may be the receiver its receiver.
+    pub(crate) fn are_on_sides(&self, links: &[Link]) -> bool
+        ensures { IsTrue result → AreOnSides links.now (patterns_of self.now.kept.items) }
+    {
+        for asked in self.kept.as_slice() {
+            if !is_on_side(links, asked) {
                 return false;
             }
         }
@@ -291,6 +391,42 @@ impl Patterns {
             return Ok(());
         }
         self.keep(rank, Pattern::PollOfSends)
+    }
+
+    fn add_poll_of_cuts(&mut self, rank: u8, waits: bool) -> Result<(), AllocError>
+        ensures allowed { OnOk result (IsAllowed (patterns_of self.new.kept.items) rank (cond waits wait poll_of_cuts)) }
+        ensures keeps { OnOk result (Keeps self.old.kept.items self.new.kept.items) }
+    {
+        if waits {
+            return Ok(());
+        }
+        self.keep(rank, Pattern::PollOfCuts)
+    }
+
+    /// Adds that the rank meets a box of this link as its sender, if the link has such a box.
+    fn add_sender(&mut self, rank: u8, link: u8, part: u8) -> Result<bool, AllocError>
+        ensures allowed { IfOk result (λ listed. IsTrue listed → IsAllowed (patterns_of self.new.kept.items) rank
+            (at_box part (by_sender link))) }
+        ensures keeps { OnOk result (Keeps self.old.kept.items self.new.kept.items) }
+    {
+        if part >= 16 {
+            return Ok(false);
+        }
+        self.keep(rank, Pattern::BySender { link })?;
+        Ok(true)
+    }
+
+    /// Adds that it meets one as its receiver.
+    fn add_receiver(&mut self, rank: u8, link: u8, part: u8) -> Result<bool, AllocError>
+        ensures allowed { IfOk result (λ listed. IsTrue listed → IsAllowed (patterns_of self.new.kept.items) rank
+            (at_box part (by_receiver link))) }
+        ensures keeps { OnOk result (Keeps self.old.kept.items self.new.kept.items) }
+    {
+        if part >= 16 {
+            return Ok(false);
+        }
+        self.keep(rank, Pattern::ByReceiver { link })?;
+        Ok(true)
     }
 
     pub(crate) fn add_source(
@@ -356,11 +492,19 @@ impl Patterns {
                 self.keep(rank, Pattern::Claim)?;
                 Ok(true)
             }
-            _ => Ok(false),
+            Request::Init { .. } => {
+                self.keep(rank, Pattern::Initialisation)?;
+                Ok(true)
+            }
+            Request::Cut { .. } => {
+                self.add_poll_of_cuts(rank, waits)?;
+                Ok(true)
+            }
         }
     }
 
-    /// Adds what the rank asks, unless it is there. False where it has no pattern: partitions.
+    /// Adds what the rank asks, unless it is there. False where it has no pattern: it waits for a partition that it hasn't made
+    /// ready itself.
     pub fn add(&mut self, rank: u8, waits: bool, ask: &Ask) -> Result<bool, AllocError>
         ensures allowed { IfOk result (λ listed. IsTrue listed → IsAllowed (patterns_of self.new.kept.items) rank
             (pattern_of_ask waits ask.now)) }
@@ -370,7 +514,11 @@ impl Patterns {
         match ask {
             Ask::Plain | Ask::Local | Ask::Idle => Ok(true),
             Ask::Hub(request) => self.add_request(rank, waits, request),
-            _ => Ok(false),
+            Ask::Ready { link, part, .. } | Ask::Freed { link, part } => {
+                self.add_sender(rank, *link, *part)
+            }
+            Ask::Look { link, part } => self.add_receiver(rank, *link, *part),
+            Ask::Held => Ok(false),
         }
     }
 

@@ -4,9 +4,11 @@ ghost use Rattle.std.specs.Prelude.{IfOk};
 ghost use Rattle.cl_contests.specs.Turns.{GoesInVain, IsVainCall, IsVainNext};
 
 use crate::asking::{is_made_anew, is_vain_turn};
+use cl_journal::CLOCK_MAX;
 use cl_machine::Step;
-use cl_moves::{MoveFault, Standing, turns_of};
-use cl_state::Ask;
+use cl_moves::{MoveFault, Standing, is_in_vain, turns_of};
+use cl_state::{Ask, RankState};
+use cl_trace::Bare;
 use mp_types::Request;
 use rv_hart::Mode;
 use std::alloc::Global;
@@ -33,6 +35,25 @@ fn vain_call(
     Ok(Some(turn))
 }
 
+/// The turn of a rank that looks at a box, if it isn't as it is asked for.
+fn vain_look(
+    standing: &Standing,
+    rank: u8,
+    own: &RankState,
+    ask: &Ask,
+) -> Result<Option<Step>, MoveFault>
+    ensures { IfOk result (IsVainCall rank) }
+{
+    let looks = matches!(ask, Ask::Look { .. } | Ask::Freed { .. });
+    if !looks || !is_in_vain(&standing.cluster, rank, ask) {
+        return Ok(None);
+    }
+    if own.clock >= CLOCK_MAX {
+        return Err(MoveFault::Clock);
+    }
+    Ok(Some(Step::bare(rank, 0, own.clock + 1, Bare::Miss)))
+}
+
 /// The next turn of a rank, if it is the first one of a call that is made anew until there is something, and nothing is there.
 fn next_vain(alloc: Global, standing: &Standing, rank: u8) -> Result<Option<Step>, MoveFault>
     ensures { IfOk result (IsVainNext standing.now) }
@@ -54,7 +75,7 @@ fn next_vain(alloc: Global, standing: &Standing, rank: u8) -> Result<Option<Step
     }
     match own.ask_next(0, &doing)? {
         Ask::Hub(request) => vain_call(alloc, standing, rank, &request),
-        _ => Ok(None),
+        ask => vain_look(standing, rank, own, &ask),
     }
 }
 

@@ -32,7 +32,7 @@ use Rattle.cl_order_laws.proofs.Steps.{below_law}
 use Rattle.cl_order_laws.proofs.SureHub.{sure_hub_law}
 use Rattle.cl_moves.specs.Ahead.{GoesAhead, WentAhead}
 use Rattle.cl_moves.specs.Moves.{AreTurnsOf, IsMove, turn_at}
-use Rattle.cl_moves.specs.Standing.{HasNoTurn, IsWay, StandsAt, Takes, Took, by_order, node_of}
+use Rattle.cl_moves.specs.Standing.{IsWay, StandsAt, Takes, by_order, node_of}
 use Rattle.cl_moves.specs.Posts.{most_posts}
 use Rattle.cl_moves.specs.Sure.{GoesSurely, IsReadyKind, IsSureCallIfSome, IsSureIfSome, IsSureNext, IsSureTurn, SettlesBy}
 use Rattle.cl_moves.specs.declared.single.Whose.{Whose}

@@ -2,7 +2,6 @@
 use Rattle.std.specs.Prelude.{ℕ, ◌+◌, ◌≡◌, ◌<◌, ◌^◌, max, List, length, slice_get, Option, Some, None}
 use Rattle.rv_image_types.specs.declared.images.ImageParts.{ImageParts}
 use Rattle.rv_image_types.specs.declared.images.Link.{Link}
-use Rattle.mp_types.specs.declared.replies.Reply.{Reply}
 use Rattle.mp_types.specs.declared.requests.Request.{Request}
 use Rattle.mp_hub.specs.Hub.{Call, reply_of}
 use Rattle.mp_hub.specs.Outcomes.{StandsFor}

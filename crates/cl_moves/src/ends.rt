@@ -52,7 +52,7 @@ fn is_filled(boxes: &[[Settled; 16]], link: u8, part: u8) -> bool
 }
 
 /// Whether what a hart of the rank asks isn't there.
-fn is_in_vain(state: &ClusterState, rank: u8, ask: &Ask) -> bool
+pub fn is_in_vain(state: &ClusterState, rank: u8, ask: &Ask) -> bool
     ensures { (image : ImageParts) (cluster : Cluster) → ClusterStandsFor image state.now cluster
         → (result ≡ true) ↔ IsInVain cluster rank ask.now }
 {

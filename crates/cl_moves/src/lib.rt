@@ -12,7 +12,7 @@ mod standing;
 mod sure;
 mod turns;
 
-pub use ends::{is_done, is_end};
+pub use ends::{is_done, is_end, is_in_vain};
 pub use faults::MoveFault;
 pub use single::Whose;
 pub use standing::Standing;

@@ -20,6 +20,7 @@ use Rattle.cl_state.specs.Asked.{asked, doing, part_of}
 use Rattle.cl_state.specs.Rank.{Rank}
 use Rattle.cl_state.specs.Told.{told}
 use Rattle.cl_state_laws.specs.Awake.{awake}
+use Rattle.cl_state_laws.specs.Laws.{IsLook as LooksAtBox}
 use Rattle.cl_state_laws.specs.Vain.{IsStopped, mode_of, waits_on}
 use Rattle.cl_state_laws.specs.VainLaws.{at_clock}
 use Rattle.cl_state_laws.proofs.Vain.{vain_law as rank_vain}
@@ -27,7 +28,8 @@ use Rattle.cl_state_laws.proofs.Wakes.{wake_law}
 use Rattle.cl_machine.specs.Cluster.{Cluster}
 use Rattle.cl_machine.specs.Journal.{reply_in, with_entry}
 use Rattle.cl_order_laws.specs.Alike.{AlikeRanks, AreEach, hub_of}
-use Rattle.cl_order_laws.specs.Closed.{none_had, one_more}
+use Rattle.cl_order_laws.specs.Closed.{IsInVain, none_had, one_more}
+use Rattle.cl_order_laws.specs.Orders.{is_miss}
 use Rattle.cl_order_laws.specs.Sure.{IsSure}
 use Rattle.cl_order_laws.specs.SureAsks.{IsBusy, IsReady, IsSureAsk}
 use Rattle.cl_order_laws.proofs.Each.{each_set}
@@ -41,16 +43,19 @@ use Rattle.cl_first_laws.specs.Below.{AreAlike}
 use Rattle.cl_first_laws.proofs.Below.{likeness_law}
 use Rattle.cl_first_laws.specs.Laws.{Turn}
 use Rattle.cl_first_laws.proofs.Exchanges.{Called, call_of}
-use Rattle.cl_schedule_laws.specs.Machines.{IsExchanged, IsMachine, Ranks}
-use Rattle.cl_reduction_laws.specs.Patterns.{IsAllowed, MayPass, Pattern, pattern_of_ask, pattern_of_request}
-use Rattle.cl_reduction_laws.specs.Clusters.{AreSure, CanGo, GoesFirst, IsReadyPoll, IsStill, IsWithin, Search, State, alone as busy, awake_cluster, cluster_machine, collects, lone, posts, posts_of, weight_of}
+use Rattle.cl_schedule_laws.specs.Machines.{IsExchanged, IsMachine, Ranks, Takes}
+use Rattle.cl_reduction_laws.specs.Patterns.{IsAllowed, MayMeet, MayPass, Pattern, pattern_of, pattern_of_ask, pattern_of_request}
+use Rattle.cl_reduction_laws.specs.Clusters.{AreSure, CanGo, FindsBox, Found, GoesFirst, IsAtBox, IsReadyPoll, IsStill, IsWithin, Search, State, alone as busy, awake_cluster, cluster_machine, collects, lone, meets, posts, posts_of, weight_of}
 use Rattle.cl_reduction_laws.specs.Laws.{ClusterMachineLaw}
 use Rattle.cl_reduction_laws.proofs.Awake.{map_set, mapped}
-use Rattle.cl_reduction_laws.proofs.Good.{Gone, IsMade, IsOwn, alone, at_start, called, goes_of, gone, good_after, grows_by, made_within, plans_of}
+use Rattle.cl_reduction_laws.proofs.AtBoxes.{AtBox, Leaves, freed, miss_leaves, misses, missed_awake, readied, took}
+use Rattle.cl_reduction_laws.proofs.Good.{Gone, IsMade, IsOnly, IsOwn, alone, at_start, called, goes_of, gone, good_after, grows_by, made_within, met, plans_of}
 use Rattle.cl_reduction_laws.proofs.Machine.{IsSame, each_itself, Taken, same_alike, taken, turn_by}
 use Rattle.cl_reduction_laws.proofs.Follows.{follows, weight_too, within_too}
-use Rattle.cl_reduction_laws.proofs.First.{IsTold, is_there, is_told, no_collect, no_finish, no_probe, no_several, not_yet, of_ready, of_refused, of_vain, refused}
-use Rattle.cl_reduction_laws.proofs.Exchanged.{by_exchange, by_own, by_posts, by_sure, kept_rank, swapped_sure}
+use Rattle.cl_reduction_laws.proofs.First.{IsTold, is_there, is_told, no_collect, no_finish, no_probe, no_several, not_yet, of_ready, of_refused, of_transfers, of_vain, refused}
+use Rattle.cl_reduction_laws.proofs.Meeting.{IsFilling, box_live, filling_visits, finds_at_box, finds_kept, holds_or_empty, kind_of, only_beside, other_box, turn_found, visit_kind}
+use Rattle.cl_reduction_laws.proofs.Places.{IsBeside, IsVisit, beside, in_place, number_of, put_other}
+use Rattle.cl_reduction_laws.proofs.Exchanged.{by_exchange, by_own, by_posts, by_sure, kept_rank, no_miss, past_beside, past_other, past_place, swapped_sure}
 
 -- ---- what may pass, of the very calls
 
@@ -77,6 +82,36 @@ pub set_kept : {A : Type 0} (xs : List A) (i : ℕ) (x : A) → slice_get xs i �
 set_kept [] i x h = refl
 set_kept (y ∷ xs) zero x h = ap (λ z. z ∷ xs) (sym (same_Some y x h))
 set_kept (y ∷ xs) (suc i) x h = ap (λ l. y ∷ l) (set_kept xs i x h)
+
+-- ---- what goes first
+
+pub own_or_vain : (c : Cluster) (r : ℕ) (q : Ask) → IsOwn q → IsInVain c r q → ⊥
+own_or_vain c r Ask.Plain own in_vain = in_vain
+own_or_vain c r Ask.Local own in_vain = in_vain
+own_or_vain c r Ask.Idle own in_vain = in_vain
+own_or_vain c r _ own in_vain = own
+
+busy_alive : (a : Ask) → IsBusy a → IsLive a
+busy_alive Ask.Plain is = tt
+busy_alive Ask.Local is = tt
+busy_alive _ is = absurd is
+
+pub busy_only : (a : Ask) → IsBusy a → IsOnly a
+busy_only Ask.Plain is = tt
+busy_only Ask.Local is = tt
+busy_only _ is = absurd is
+
+can_live : (a : Ask) → CanGo a → IsLive a
+can_live Ask.Plain is = tt
+can_live Ask.Local is = tt
+can_live (Ask.Hub q) is = tt
+can_live _ is = absurd is
+
+pub can_only : (a : Ask) → CanGo a → IsOnly a
+can_only Ask.Plain is = tt
+can_only Ask.Local is = tt
+can_only (Ask.Hub q) is = tt
+can_only _ is = absurd is
 
 module _ (search : Search) where
   abbrev hart : ℕ → ℕ
@@ -119,6 +154,34 @@ module _ (search : Search) where
       entry : Entry
       entry = record { rank = s; hart = hart s; clock = 0; stamp = 0; request = p; reply = reply.NotYet }
 
+  -- a look that misses leaves a rank that waits on as it was, but for who is awake
+  pub missed_box : (s : ℕ) (a b : Cluster) (x : Rank) (stamp : ℕ) → slice_get a.ranks s ≡ Some x
+      → waits_on (doing x.site (part_of x (hart s))) ≡ true → LooksAtBox (asked x (hart s))
+      → Leaves s (hart s) a b x answer.Missed stamp a.boxes
+      → IsSame a b
+  missed_box s a b x stamp here on look l = record {
+    ranks = subst (λ xs. AreEach (AlikeRanks no_renaming) xs (map awake b.ranks))
+        (set_kept (map awake a.ranks) s (awake x) (mapped awake a.ranks s x here))
+        (subst (λ ys. AreEach (AlikeRanks no_renaming) (slice_set (map awake a.ranks) s (awake x)) ys)
+        (sym (ap (map awake) l.ranks ∙ map_set awake a.ranks s (told x (hart s) answer.Missed stamp)
+        ∙ ap (slice_set (map awake a.ranks) s) (missed_awake x (hart s) stamp on look)))
+        (each_set (AlikeRanks no_renaming) (map awake a.ranks) (map awake a.ranks) s (awake x) (at_clock (awake x) stamp)
+        (each_itself (map awake a.ranks)) (rank_itself (awake x) stamp)));
+    hubs = ap hub_of l.journal;
+    boxes = l.boxes;
+  }
+
+  -- and one for what isn't there can't but miss
+  pub vain_box : (s : ℕ) (a b : Cluster) (x : Rank) → slice_get a.ranks s ≡ Some x
+      → waits_on (doing x.site (part_of x (hart s))) ≡ true → IsInVain a s (asked x (hart s)) → AtBox s (hart s) a b x
+      → IsSame a b
+  vain_box s a b x here on none (readied link part bytes box stamp asks is empty l) = absurd (subst (IsInVain a s) asks none)
+  vain_box s a b x here on none (took link part bytes box stamp asks is holds l) =
+      absurd (holds_or_empty box bytes holds (subst (IsInVain a s) asks none box is))
+  vain_box s a b x here on none (freed link part box stamp asks is empty l) =
+      absurd (subst (IsInVain a s) asks none box is empty)
+  vain_box s a b x here on none (misses stamp look l) = missed_box s a b x stamp here on look l
+
   -- ---- who may go first
 
   module _ (s : ℕ) (a b : State search) (rs : Ranks) (out : rs s ≡ false) (sure : AreSure search a.cluster rs)
@@ -151,14 +214,25 @@ module _ (search : Search) where
     }
 
     abbrev Swaps : Type 0
-    Swaps = (i : ℕ) (c : State search) → rs i ≡ true → Turn i (hart i) b.cluster c.cluster
-        → IsExchanged (cluster_machine search) i s a c
+    Swaps = (i : ℕ) (c : State search) (found : Bool) → rs i ≡ true → Takes (cluster_machine search) found i b c
+        → IsExchanged (cluster_machine search) found i s a c
 
-    swaps : ((c : State search) → Turn r (hart r) b.cluster c.cluster → IsExchanged (cluster_machine search) r s a c) → Swaps
-    swaps each i c among two =
+    -- a turn that found what it asks for, if that is wanted
+    abbrev Exchanges : Type 0
+    Exchanges =
+        (c : State search) (found : Bool) (two : Turn r (hart r) b.cluster c.cluster)
+        → (found ≡ true → is_miss two.step.kind ≡ false)
+        → IsExchanged (cluster_machine search) found r s a c
+
+    swaps : Exchanges → Swaps
+    swaps each i c found among takes =
         let same = sure.only i among in
-        subst (λ k. IsExchanged (cluster_machine search) k s a c) (sym same)
-        (each c (subst (λ k. Turn k (hart k) b.cluster c.cluster) same two))
+        subst (λ k. IsExchanged (cluster_machine search) found k s a c) (sym same)
+        (by found (subst (λ k. Takes (cluster_machine search) found k b c) same takes))
+      where
+        by : (found : Bool) → Takes (cluster_machine search) found r b c → IsExchanged (cluster_machine search) found r s a c
+        by true takes = each c true takes.0 (λ is. takes.1)
+        by false takes = each c false takes (λ is. absurd (cc))
 
     abbrev Result : Type 0
     Result = AreAlike search.wild (awake_cluster a.cluster) (awake_cluster b.cluster) ⊎ (AreSure search b.cluster rs × Swaps)
@@ -209,18 +283,18 @@ module _ (search : Search) where
         posting is race sync =
             inr (
               kept,
-              swaps (λ c two.
-                  by_posts search r s a b c apart sure.rank t.rank sure.there t.there sure.within within room one two q asks post p
-                  also is race sync),
+              swaps (λ c found two finds.
+                  by_posts search r s a b c apart sure.rank t.rank sure.there t.there sure.within within room one two found finds
+                  q asks post p also is race sync),
             )
 
         exchanges : MayExchange search.wild h r q s p → Result
         exchanges v =
             inr (
               kept,
-              swaps (λ c two.
-                  by_exchange search r s a b c apart sure.rank t.rank sure.there t.there sure.within within room one two q asks post p
-                  also v),
+              swaps (λ c found two finds.
+                  by_exchange search r s a b c apart sure.rank t.rank sure.there t.there sure.within within room one two found finds
+                  q asks post p also v),
             )
 
         -- where nothing is there it waits on, and is left as it was; or the call of r brings it nothing
@@ -273,17 +347,27 @@ module _ (search : Search) where
       call_by (request.Claim comm source tag) also k = absurd (may (request.Claim comm source tag) also k)
       call_by (request.Claimed now n) also k = absurd (may (request.Claimed now n) also k)
       call_by (request.Init sends comm peer tag parts size) also k =
-          absurd (allowed (request.Init sends comm peer tag parts size) also k)
-      call_by (request.Cut link) also k = absurd (allowed (request.Cut link) also k)
+          exchanges (request.Init sends comm peer tag parts size) also k
+          (of_transfers search.wild a.cluster r s q (request.Init sends comm peer tag parts size) away few post tt)
+      call_by (request.Cut link) also k =
+          exchanges (request.Cut link) also k (of_transfers search.wild a.cluster r s q (request.Cut link) away few post tt)
 
       by_posting : Gone s (hart s) a.cluster b.cluster t.rank → Result
       by_posting (alone stamp own ranks journal boxes) =
           inr (
             kept,
-            swaps (λ c two.
-                by_own search r s a b c apart sure.rank t.rank sure.there t.there sure.within within room one two q asks post own),
+            swaps (λ c found two finds.
+                by_own search r s a b c apart sure.rank t.rank sure.there t.there sure.within within room one two found finds own),
           )
       by_posting (called p also k) = call_by p also k
+      by_posting (met at box) =
+          inr (
+            kept,
+            swaps (λ c found two finds.
+                past_place search r s a b c apart sure.rank t.rank sure.there t.there sure.within within room one two found finds
+                (visit_kind s (hart s) a.cluster b.cluster t.rank t.there at one)
+                (only_beside r (hart r) b.cluster c.cluster sure.rank (still ∙ sure.there) (subst IsOnly (sym asks) tt) two)),
+          )
 
     -- a turn of a rank that can't go on leaves what is alike
     still_turn : IsStill a.cluster s t.rank (hart s) → Gone s (hart s) a.cluster b.cluster t.rank → IsSame a.cluster b.cluster
@@ -291,11 +375,71 @@ module _ (search : Search) where
         idle s a.cluster b.cluster t.rank stamp t.there stopped ranks journal boxes
     still_turn (inl stopped) (called p also k) =
         (let none = sym ((rank_vain.stopped) t.rank (hart s) 0 answer.Alone stopped).0 ∙ also in absurd (cc))
-    still_turn (inr waits) (alone stamp own ranks journal boxes) = absurd (subst IsOwn waits.1 own)
+    still_turn (inl stopped) (met at box) =
+        absurd (subst IsAtBox ((rank_vain.stopped) t.rank (hart s) 0 answer.Alone stopped).0 at)
+    still_turn (inr waits) (alone stamp own ranks journal boxes) = absurd (own_or_vain a.cluster s (asked t.rank (hart s)) own waits.1)
     still_turn (inr waits) (called p also k) =
-        vain s a.cluster b.cluster t.rank waits.0 t.there waits.2 waits.1
-        (call_of s (hart s) a.cluster b.cluster t.rank waits.0 t.there waits.1 one)
-        (sym (reply_is a.cluster.journal s waits.0) ∙ waits.3)
+        vain s a.cluster b.cluster t.rank p t.there waits.0 also k
+        (sym (reply_is a.cluster.journal s p) ∙ subst (IsInVain a.cluster s) also waits.1)
+    still_turn (inr waits) (met at box) = vain_box s a.cluster b.cluster t.rank t.there waits.0 waits.1 box
+
+    -- a turn at a box
+    module _ (finds : FindsBox a.cluster (waits_on (doing sure.rank.site (part_of sure.rank (hart r)))) (asked sure.rank (hart r)))
+        (pass : (s : ℕ) (p : Pattern) → s ≢ r → IsAllowed search.patterns s p → MayMeet (asked sure.rank (hart r)) p) where
+      abbrev number : ℕ
+      number = number_of (asked sure.rank (hart r))
+
+      asks_same : asked one.leads.0 one.step.hart ≡ asked t.rank (hart s)
+      asks_same =
+          ap (λ z. asked z one.step.hart)
+          (same_Some one.leads.0 t.rank (sym one.leads.1 ∙ ap (slice_get a.cluster.ranks) one.rank ∙ t.there))
+          ∙ ap (asked t.rank) one.hart
+
+      theirs : MayMeet (asked sure.rank (hart r)) (pattern_of t.rank (hart s))
+      theirs = pass s (pattern_of t.rank (hart s)) apart (within t.rank t.there).0
+
+      -- the turn of s leaves the box as it was
+      kept_box : slice_get b.cluster.boxes number ≡ slice_get a.cluster.boxes number → AreSure search b.cluster rs
+      kept_box same = stays (meets (finds_kept a.cluster b.cluster _ _ same finds) pass)
+
+      visits : (c : State search) → (two : Turn r (hart r) b.cluster c.cluster) → IsVisit two.step.kind
+      visits c two =
+          visit_kind r (hart r) b.cluster c.cluster sure.rank (still ∙ sure.there)
+          (finds_at_box a.cluster _ (asked sure.rank (hart r)) finds) two
+
+      asks_mine : (c : State search) → (two : Turn r (hart r) b.cluster c.cluster)
+          → asked two.leads.0 two.step.hart ≡ asked sure.rank (hart r)
+      asks_mine c two =
+          ap (λ z. asked z two.step.hart)
+          (same_Some two.leads.0 sure.rank (sym two.leads.1 ∙ ap (slice_get b.cluster.ranks) two.rank ∙ still ∙ sure.there))
+          ∙ ap (asked sure.rank) two.hart
+
+      by_meeting : IsBeside one.step.kind ⊎ IsFilling one.step.kind → Result
+      by_meeting (inl is) =
+          let e = beside a.cluster b.cluster one.step one.leads.0 is one.leads.3 in
+          inr (
+            kept_box (ap (λ bs. slice_get bs number) e.boxes),
+            swaps (λ c found two it_finds.
+                past_beside search r s a b c apart sure.rank t.rank sure.there t.there sure.within within room one two found it_finds
+                is (visits c two)),
+          )
+      by_meeting (inr fills) =
+          let visit = filling_visits one.step.kind fills in
+          let e = in_place a.cluster b.cluster one.step one.leads.0 visit one.leads.3 in
+          let two_boxes : number_of (asked one.leads.0 one.step.hart) ≢ number =
+          other_box a.cluster b.cluster one.step one.leads.0 _ _ (asked sure.rank (hart r)) finds one.step.kind fills one.leads.3
+          (subst (λ z. MayMeet (asked sure.rank (hart r)) (pattern_of_ask w z)) (sym asks_same) theirs) in
+          inr (
+            kept_box (ap (λ bs. slice_get bs number) e.boxes
+                ∙ put_other a.cluster.boxes (number_of (asked one.leads.0 one.step.hart)) number e.box two_boxes),
+            swaps (λ c found two it_finds.
+                past_other search r s a b c apart sure.rank t.rank sure.there t.there sure.within within room one two found it_finds
+                visit (visits c two)
+                (λ same. two_boxes (same ∙ ap number_of (asks_mine c two)))),
+          )
+        where
+          w : Bool
+          w = waits_on (doing t.rank.site (part_of t.rank (hart s)))
 
     by_first : GoesFirst search a.cluster r sure.rank → Result
     by_first (lone can still) =
@@ -306,19 +450,22 @@ module _ (search : Search) where
         (alike_itself a.cluster (a.good).boxes) sure.there is in
         inr (
           stays (busy is),
-          swaps (λ c two.
-              by_sure search r s a b c apart sure.rank t.rank sure.there t.there sure.within within room one two s_law),
+          swaps (λ c found two finds.
+              by_sure search r s a b c apart sure.rank t.rank sure.there t.there sure.within within room one two found finds
+              (busy_only (asked sure.rank (hart r)) is) s_law),
         )
     by_first (collects q asks ready) =
         let s_law = sure_hub_law (plans_of hart) 65535 (at_start a.cluster) r sure.rank q (omega arith)
         (alike_itself a.cluster (a.good).boxes) sure.there asks ready in
         inr (
           stays (collects q asks (ready_then q s_law asks)),
-          swaps (λ c two.
-              by_sure search r s a b c apart sure.rank t.rank sure.there t.there sure.within within room one two s_law),
+          swaps (λ c found two finds.
+              by_sure search r s a b c apart sure.rank t.rank sure.there t.there sure.within within room one two found finds
+              (subst IsOnly (sym asks) tt) s_law),
         )
     by_first (posts q asks post pass) =
         by_posting q asks post pass (gone s (hart s) a.cluster b.cluster t.rank t.there made one)
+    by_first (meets finds pass) = by_meeting finds pass (kind_of one.step.kind)
 
   -- ---- a poll of what is there
 
@@ -342,12 +489,19 @@ module _ (search : Search) where
 
   -- where a rank's turn leads that can be taken
   goes_on : (r : ℕ) (a : State search) (rank : Rank) → slice_get a.cluster.ranks r ≡ Some rank → IsWithin search a.cluster r
-      → IsLive (asked rank (hart r))
+      → IsLive (asked rank (hart r)) → IsOnly (asked rank (hart r))
       → (b : State search) × Turn r (hart r) a.cluster b.cluster
-  goes_on r a rank there within live =
-      let t = turn_by r (hart r) a.cluster rank there (has_hart rank (hart r) live)
-      (made_within search.patterns r (hart r) rank (within rank there).0) in
+  goes_on r a rank there within live single =
+      let t = turn_by r (hart r) a.cluster rank there (has_hart rank (hart r) live) single in
       (record { cluster = t.0; good = good_after search r a.cluster t.0 rank there a.good within t.1 }, t.1)
+
+  -- and finds what it asks for
+  finds_on : (r : ℕ) (a : State search) (rank : Rank) → slice_get a.cluster.ranks r ≡ Some rank → IsWithin search a.cluster r
+      → IsLive (asked rank (hart r)) → IsOnly (asked rank (hart r))
+      → (b : State search) × Found r (hart r) a.cluster b.cluster
+  finds_on r a rank there within live single =
+      let t = goes_on r a rank there within live single in
+      (t.0, (t.1, no_miss r (hart r) a.cluster t.0.cluster rank there single t.1))
 
   still_polls : (r s : ℕ) (a b : State search) → s ≢ r → (p : IsReadyPoll search a.cluster r) → posts_of a.cluster + 1 < 65536
       → Turn s (hart s) a.cluster b.cluster
@@ -386,28 +540,57 @@ module _ (search : Search) where
 
   -- ---- who goes first can go
 
-  first_live : (c : Cluster) (r : ℕ) (rank : Rank) → GoesFirst search c r rank → IsLive (asked rank (hart r))
-  first_live c r rank (busy is) = go (asked rank (hart r)) is
-    where
-      go : (a : Ask) → IsBusy a → IsLive a
-      go Ask.Plain is = tt
-      go Ask.Local is = tt
-      go _ is = absurd is
-  first_live c r rank (collects q asks ready) = live_hub q _ asks
-  first_live c r rank (lone can still) = go (asked rank (hart r)) can
-    where
-      go : (a : Ask) → CanGo a → IsLive a
-      go Ask.Plain is = tt
-      go Ask.Local is = tt
-      go (Ask.Hub q) is = tt
-      go _ is = absurd is
-  first_live c r rank (posts q asks post pass) = live_hub q _ asks
-
   sure_goes : (rs : Ranks) (r : ℕ) (a : State search) → AreSure search a.cluster rs → rs r ≡ true
-      → (b : State search) × Turn r (hart r) a.cluster b.cluster
+      → (b : State search) × Found r (hart r) a.cluster b.cluster
   sure_goes rs r a sure among =
-      subst (λ i. (b : State search) × Turn i (hart i) a.cluster b.cluster) (sym (sure.only r among))
-      (goes_on sure.one a sure.rank sure.there sure.within (first_live a.cluster sure.one sure.rank sure.first))
+      subst (λ i. (b : State search) × Found i (hart i) a.cluster b.cluster) (sym (sure.only r among)) (go sure.first)
+    where
+      one : (live : IsLive (asked sure.rank (hart sure.one))) → IsOnly (asked sure.rank (hart sure.one))
+          → (b : State search) × Found sure.one (hart sure.one) a.cluster b.cluster
+      one live single = finds_on sure.one a sure.rank sure.there sure.within live single
+
+      hub : (q : Request) → asked sure.rank (hart sure.one) ≡ Ask.Hub q
+          → (b : State search) × Found sure.one (hart sure.one) a.cluster b.cluster
+      hub q asks = one (live_hub q _ asks) (subst IsOnly (sym asks) tt)
+
+      go : GoesFirst search a.cluster sure.one sure.rank
+          → (b : State search) × Found sure.one (hart sure.one) a.cluster b.cluster
+      go (busy is) = one (busy_alive (asked sure.rank (hart sure.one)) is) (busy_only (asked sure.rank (hart sure.one)) is)
+      go (collects q asks ready) = hub q asks
+      go (posts q asks post pass) = hub q asks
+      go (lone can others) = one (can_live (asked sure.rank (hart sure.one)) can) (can_only (asked sure.rank (hart sure.one)) can)
+      go (meets finds pass) =
+          let at = finds_at_box a.cluster _ (asked sure.rank (hart sure.one)) finds in
+          let t = turn_found sure.one (hart sure.one) a.cluster sure.rank _ sure.there
+          (has_hart sure.rank (hart sure.one) (box_live (asked sure.rank (hart sure.one)) at)) finds in (
+            record { cluster = t.0; good = good_after search sure.one a.cluster t.0 sure.rank sure.there a.good sure.within t.1.0 },
+            t.1,
+          )
+
+  -- a turn of who goes first that misses is in vain
+  pub first_misses : (r : ℕ) (a b : State search) (rank : Rank) → slice_get a.cluster.ranks r ≡ Some rank
+      → GoesFirst search a.cluster r rank → (turn : Turn r (hart r) a.cluster b.cluster) → is_miss turn.step.kind ≡ true
+      → AreAlike search.wild (awake_cluster a.cluster) (awake_cluster b.cluster)
+  first_misses r a b rank there first turn missed = go first
+    where
+      single : IsOnly (asked rank (hart r)) → AreAlike search.wild (awake_cluster a.cluster) (awake_cluster b.cluster)
+      single is = (let no = sym (no_miss r (hart r) a.cluster b.cluster rank there is turn) ∙ missed in absurd (cc))
+
+      waits : (ask : Ask) → LooksAtBox ask → FindsBox a.cluster (waits_on (doing rank.site (part_of rank (hart r)))) ask
+          → waits_on (doing rank.site (part_of rank (hart r))) ≡ true
+      waits (Ask.Look link part) look f = f.0
+      waits (Ask.Freed link part) look f = f.0
+      waits _ look f = absurd look
+
+      go : GoesFirst search a.cluster r rank → AreAlike search.wild (awake_cluster a.cluster) (awake_cluster b.cluster)
+      go (busy is) = single (busy_only (asked rank (hart r)) is)
+      go (collects q asks ready) = single (subst IsOnly (sym asks) tt)
+      go (posts q asks post pass) = single (subst IsOnly (sym asks) tt)
+      go (lone can others) = single (can_only (asked rank (hart r)) can)
+      go (meets finds pass) =
+          let m = miss_leaves r (hart r) a.cluster b.cluster rank there turn missed in
+          same_alike search.wild a.cluster b.cluster (a.good).boxes
+          (missed_box r a.cluster b.cluster rank turn.step.stamp there (waits (asked rank (hart r)) m.0 finds) m.0 m.1)
 
   sure_asks : (rs : Ranks) (r : ℕ) (a : State search) → AreSure search a.cluster rs → rs r ≡ true → IsWithin search a.cluster r
   sure_asks rs r a sure among = subst (IsWithin search a.cluster) (sym (sure.only r among)) sure.within
@@ -444,7 +627,7 @@ module _ (search : Search) where
     );
     owns = λ r s a b apart goes.
         ap (λ o. weight_of o (hart s)) (kept_rank r (hart r) s a.cluster b.cluster goes (λ e. apart (sym e)));
-    polls = λ r a p. goes_on r a p.rank p.there p.within (live_hub p.q _ p.asks);
+    polls = λ r a p. goes_on r a p.rank p.there p.within (live_hub p.q _ p.asks) (subst IsOnly (sym p.asks) tt);
     asks_for = λ r a p. p.within;
     gets = λ r a b p space goes.
         (let e = no_post r a.cluster b.cluster p.rank p.q p.there p.asks p.ready goes in omega (arith, e, space));
@@ -452,6 +635,7 @@ module _ (search : Search) where
       still_polls r s a b apart p space one,
       λ c two. polls_first r s a b c apart p within space one two,
     );
+    finds_goes = λ r a b f. f.0;
     goes = sure_goes;
     asks = sure_asks;
     first = λ rs s a b out sure within room one. by_first s a b rs out sure within room one sure.first;

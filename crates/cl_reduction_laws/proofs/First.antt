@@ -34,6 +34,7 @@ use Rattle.cl_order_laws.specs.Alike.{hub_of}
 use Rattle.cl_order_laws.specs.SureAsks.{IsReady}
 use Rattle.cl_order_laws.proofs.Ready.{exchanged, ready_from}
 use Rattle.cl_reduction_laws.specs.Clusters.{weight_in}
+use Rattle.cl_reduction_laws.proofs.Transfers.{IsTransfer, both_ways}
 
 -- ---- a hart that polls asks for its post
 
@@ -160,6 +161,12 @@ module _ (wild : Wild) (c : Cluster) (r s : ℕ) (q p : Request) (apart : r ≢ 
       let k = exchanged s r (λ e. apart e) q h p laid laid_then few (ready_from h s p ready) in
       exchange_of wild h r q s p (sym (ap (λ (o : Reply × HubView). o.0) k.call)) k.reply
       (ap (λ (o : Reply × HubView). o.1) k.call)
+
+  -- partitioned transfers have nothing to do with posts
+  pub of_transfers : IsPosting q → IsTransfer p → MayExchange wild h r q s p
+  of_transfers posts is =
+      let k = both_ways h r s q p posts is in
+      exchange_of wild h r q s p k.mine k.theirs k.hubs
 
   pub of_refused : IsPosting q → IsRefused h s p → MayExchange wild h r q s p
   of_refused posts is =

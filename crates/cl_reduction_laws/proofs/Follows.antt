@@ -25,7 +25,7 @@ use Rattle.cl_state_laws.specs.Vain.{mode_of, waits_on}
 use Rattle.cl_state_laws.proofs.Wakes.{does_awake, part_awake, wake_law}
 use Rattle.cl_machine.specs.Cluster.{Cluster}
 use Rattle.cl_order_laws.specs.Alike.{AlikeRanks, at_stamp, hub_of}
-use Rattle.cl_order_laws.proofs.Likeness.{each_from}
+use Rattle.cl_order_laws.proofs.Likeness.{AreSound, each_from}
 use Rattle.cl_order_laws.proofs.Ranks.{asked_alike, harts_alike}
 use Rattle.cl_first_laws.specs.Below.{AreAlike, AskOfLive, AskWithin}
 use Rattle.cl_first_laws.proofs.Below.{likeness_law}
@@ -35,8 +35,8 @@ use Rattle.cl_reduction_laws.specs.Patterns.{IsAllowed, pattern_of, pattern_of_a
 use Rattle.cl_reduction_laws.specs.Clusters.{IsWithin, Search, State, awake_cluster, may_be_named, weight_in, weight_of}
 use Rattle.cl_reduction_laws.proofs.Naming.{asks_of_live, named_inside}
 use Rattle.cl_reduction_laws.proofs.Awake.{clusters_awake, from_mapped, mapped}
-use Rattle.cl_reduction_laws.proofs.Good.{IsMade, gone, good_after, made_within}
-use Rattle.cl_reduction_laws.proofs.Machine.{ask_awake, same_alike, same_awake, same_turns, taken, turn_by}
+use Rattle.cl_reduction_laws.proofs.Good.{good_after}
+use Rattle.cl_reduction_laws.proofs.Machine.{asleep_twin, awake_twin, goes_too, same_alike, taken}
 
 -- ---- alike ranks have the same pattern
 
@@ -237,48 +237,38 @@ module _ (search : Search) where
       let t = taken r h a.cluster c.cluster turn in
       let x = t.rank in
       let sx = (a.good).stands r x t.there in
-      let made = made_within search.patterns r h x (within x t.there).0 in
       -- awake, it goes as it does
       let there_awake = mapped awake a.cluster.ranks r x t.there in
       let same_ask = (wake_law.asks) x h sx in
-      let made_awake = subst IsMade (sym same_ask) made in
-      let inside_awake = subst (λ n. h < n) (sym (length-map x.harts _)) t.inside in
-      let w = turn_by r h (awake_cluster a.cluster) (awake x) there_awake inside_awake made_awake in
-      let same_c = same_turns r h a.cluster (awake_cluster a.cluster) c.cluster w.0 x (awake x) (same_awake a.cluster)
-      t.there there_awake (ask_awake h x sx) (gone r h a.cluster c.cluster x t.there made turn)
-      (gone r h (awake_cluster a.cluster) w.0 (awake x) there_awake made_awake w.1) in
+      let w = goes_too r h a.cluster c.cluster (map awake a.cluster.ranks) x (awake x) t.there
+      (awake_twin r h a.cluster x t.there sx t.inside) turn in
       -- and the other, awake, goes alike
-      let e = (w.1).step in
-      let g = go_alike_law search.wild k.0 (awake_cluster a.cluster) (awake_cluster b.cluster) w.0 e (awake x) k.1
-      (ap (slice_get (map awake a.cluster.ranks)) (w.1).rank ∙ there_awake)
-      (subst (λ i. AskWithin search.wild i (asked (awake x) e.hart)) (sym (w.1).rank)
-      (subst (λ j. AskWithin search.wild r (asked (awake x) j)) (sym (w.1).hart)
+      let e = (w.turn).step in
+      let g = go_alike_law search.wild k.0 (awake_cluster a.cluster) (awake_cluster b.cluster) w.then e (awake x) k.1
+      (ap (slice_get (map awake a.cluster.ranks)) (w.turn).rank ∙ there_awake)
+      (subst (λ i. AskWithin search.wild i (asked (awake x) e.hart)) (sym (w.turn).rank)
+      (subst (λ j. AskWithin search.wild r (asked (awake x) j)) (sym (w.turn).hart)
       (subst (AskWithin search.wild r) (sym same_ask) (within x t.there).1)))
-      (subst (λ j. AskOfLive (awake_cluster a.cluster) (asked (awake x) j)) (sym (w.1).hart)
+      (subst (λ j. AskOfLive (awake_cluster a.cluster) (asked (awake x) j)) (sym (w.turn).hart)
       (subst (AskOfLive (awake_cluster a.cluster)) (sym same_ask) (asks_live a r h x t.there)))
-      (w.1).leads in
+      (w.turn).leads in
       let turn_b : Turn r h (awake_cluster b.cluster) g.1 =
-      record { step = at_stamp e g.0; rank = (w.1).rank; hart = (w.1).hart; leads = g.2 } in
+      record { step = at_stamp e g.0; rank = (w.turn).rank; hart = (w.turn).hart; leads = g.2 } in
       -- as it does itself
       let p = pair r a.cluster b.cluster k x t.there in
       let y = p.other in
       let sy = (b.good).stands r y p.there in
-      let within_b = within_too r a b k within in
-      let made_b = made_within search.patterns r h y (within_b y p.there).0 in
-      let u = turn_by r h b.cluster y p.there (inside_too k.0 h x y sx sy p.alike t.inside) made_b in
-      let there_b = mapped awake b.cluster.ranks r y p.there in
-      let same_d = same_turns r h b.cluster (awake_cluster b.cluster) u.0 g.1 y (awake y) (same_awake b.cluster)
-      p.there there_b (ask_awake h y sy) (gone r h b.cluster u.0 y p.there made_b u.1)
-      (gone r h (awake_cluster b.cluster) g.1 (awake y) there_b (subst IsMade (sym ((wake_law.asks) y h sy)) made_b) turn_b) in
-      let good_d = good_after search r b.cluster u.0 y p.there b.good within_b u.1 in
+      let u = goes_too r h (awake_cluster b.cluster) g.1 b.cluster.ranks (awake y) y
+      (mapped awake b.cluster.ranks r y p.there)
+      (asleep_twin r h b.cluster y p.there sy (inside_too k.0 h x y sx sy p.alike t.inside)) turn_b in
+      let good_d = good_after search r b.cluster u.then y p.there b.good (within_too r a b k within) u.turn in
       let law = likeness_law in
       record {
-        there = record { cluster = u.0; good = good_d };
-        goes = u.1;
-        alike = law.on search.wild (awake_cluster c.cluster) (awake_cluster w.0) (awake_cluster u.0)
-            (same_alike search.wild c.cluster w.0 (c.good).boxes same_c)
-            (law.on search.wild (awake_cluster w.0) (awake_cluster g.1) (awake_cluster u.0)
-            (clusters_awake search.wild w.0 g.1 (k.0, g.3))
-            (law.back search.wild (awake_cluster u.0) (awake_cluster g.1)
-            (same_alike search.wild u.0 g.1 good_d.boxes same_d)));
+        there = record { cluster = u.then; good = good_d };
+        goes = u.turn;
+        alike = law.on search.wild (awake_cluster c.cluster) (awake_cluster w.then) (awake_cluster u.then)
+            (same_alike search.wild c.cluster w.then (c.good).boxes w.same)
+            (law.on search.wild (awake_cluster w.then) (awake_cluster g.1) (awake_cluster u.then)
+            (clusters_awake search.wild w.then g.1 (k.0, g.3))
+            (same_alike search.wild g.1 u.then (subst AreSound (u.same).boxes good_d.boxes) u.same));
       }

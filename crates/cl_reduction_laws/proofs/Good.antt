@@ -19,7 +19,10 @@ use Rattle.mp_match.specs.declared.posts.Sent.{Sent}
 use Rattle.mp_match.specs.Board.{Board, collect, held_count, is_standard, is_send_of, line_of, probed, receive_posted, send_posted}
 use Rattle.mp_match.specs.Pairs.{add}
 use Rattle.mp_match.proofs.Lines.{Look, is_given, is_new, is_old, look}
-use Rattle.mp_hub.specs.Hub.{HubView, all_collected, all_got, are_distinct, claim_found, claimed_now, got_or, held, is_complete, is_done, is_known, is_ready, may_collect, outcome, seen, selecting, sending, with_board, with_claims}
+use Rattle.mp_transfers.specs.declared.sides.Setup.{Setup}
+use Rattle.mp_transfers.specs.declared.sides.Side.{Side}
+use Rattle.mp_transfers.specs.Inits.{is_receiver, lowest_link, peer_of, same_total, sender_over}
+use Rattle.mp_hub.specs.Hub.{HubView, all_collected, all_got, are_distinct, claim_found, claimed_now, cut_of, got_or, held, init_first, init_with, is_complete, is_done, is_known, is_ready, may_collect, outcome, seen, selecting, sending, setup_of, side_added, with_board, with_claims}
 use Rattle.mp_probe.specs.Claims.{handle_if, may_receive, next_number, without_claim}
 use Rattle.mp_hub.proofs.BoardKept.{all_lines, collect_lines}
 use Rattle.mp_wait_laws.proofs.Fresh.{Laid}
@@ -42,19 +45,22 @@ use Rattle.cl_state_laws.proofs.Wakes.{wake_law}
 use Rattle.cl_first_laws.specs.Below.{IsNamed, NamesOnly, TellsOnly}
 use Rattle.cl_first_laws.proofs.Below.{forgets, only}
 use Rattle.cl_trace.specs.declared.events.Kind.{Kind}
-use Rattle.cl_machine.specs.Boxes.{Box}
+use Rattle.cl_machine.specs.Boxes.{Box, box_number, with_made, with_taken}
 use Rattle.cl_machine.specs.Cluster.{Cluster}
 use Rattle.cl_order_laws.specs.Alike.{AlikeBoxes, hub_of}
 use Rattle.cl_order_laws.specs.Closed.{Node, Plans, Turns, none_had, one_more}
 use Rattle.cl_order_laws.specs.Sure.{Goes}
-use Rattle.cl_order_laws.specs.Turns.{IsOnly, IsTurn}
+use Rattle.cl_order_laws.specs.Turns.{IsOnly as IsAlone, IsTurn}
+use Rattle.cl_order_laws.proofs.Boxes.{holds_too, made_alike, taken_alike}
 use Rattle.cl_order_laws.proofs.Each.{was_there}
+use Rattle.cl_order_laws.proofs.Likeness.{AreSound}
 use Rattle.cl_order_laws.proofs.Turns.{turns_law}
 use Rattle.cl_order_laws.proofs.Walks.{turn_posts, turn_posts_most}
 use Rattle.cl_first_laws.specs.Below.{AskWithin}
 use Rattle.cl_first_laws.specs.Laws.{Turn}
 use Rattle.cl_first_laws.proofs.Exchanges.{Called, call_of}
-use Rattle.cl_reduction_laws.specs.Clusters.{IsGood, IsWithin, Search, may_be_named, posts_of}
+use Rattle.cl_reduction_laws.specs.Clusters.{IsAtBox, IsGood, IsWithin, Search, may_be_named, posts_of}
+use Rattle.cl_reduction_laws.proofs.AtBoxes.{AtBox, Leaves, at_box, freed, misses, readied, stands_taken, took}
 use Rattle.cl_reduction_laws.proofs.Naming.{named_added, named_new, names_more}
 use Rattle.cl_reduction_laws.specs.Patterns.{IsAllowed, Patterns, pattern_of, pattern_of_ask, pattern_of_request}
 
@@ -68,7 +74,7 @@ pub data Makes (h : HubView) (r : ℕ) (q : Request) (new : HubView) : Type 0 wh
       → new.board.lines ≡ add h.board.lines (post.Receive (selecting r comm source tag)) → Makes h r q new
   a_claim : (what : Selection) → new.board.lines ≡ add h.board.lines (post.Claim what) → Makes h r q new
 
--- sends, receives, claims, and calls that collect or look
+-- the call has a pattern
 abbrev pub IsListed : Request → Type 0
 IsListed (request.Send sync comm dest tag bytes) = Unit {0}
 IsListed (request.Recv now comm source tag) = Unit {0}
@@ -78,7 +84,8 @@ IsListed (request.All ns) = Unit {0}
 IsListed (request.Probe comm source tag) = Unit {0}
 IsListed (request.Claim comm source tag) = Unit {0}
 IsListed (request.Claimed now n) = Unit {0}
-IsListed _ = ⊥
+IsListed (request.Init sends comm peer tag parts size) = Unit {0}
+IsListed (request.Cut link) = Unit {0}
 
 module _ (h : HubView) (r : ℕ) (q : Request) where
   either : (b : Bool) (x y : Reply × HubView) → Makes h r q x.1 → Makes h r q y.1 → Makes h r q (cond b x y).1
@@ -128,7 +135,23 @@ makes h r (request.Claimed now n) is =
     go true =
         nothing (ap (λ (x : HubView). x.board.lines) (got_hub k reply.NotYet (collect h.board n)) ∙ collect_lines h.board n)
     go false = nothing refl
-makes h r _ is = absurd is
+makes h r (request.Init sends comm peer tag parts size) is =
+    go (setup_of r sends comm peer tag parts size) (peer_of h.sides (setup_of r sends comm peer tag parts size))
+  where
+    q : Request
+    q = request.Init sends comm peer tag parts size
+
+    free : (s : Setup) (o : Option ℕ) → Makes h r q (init_first h s o).1
+    free s None = nothing refl
+    free s (Some link) = nothing refl
+
+    go : (s : Setup) (o : Option Side) → Makes h r q (init_with h s o).1
+    go s None = free s (lowest_link h.links h.sides s)
+    go s (Some t) =
+        either h r q (same_total s t.setup) (side_added h s t.link) (reply.Code code.Shape, h) (nothing refl) (nothing refl)
+makes h r (request.Cut link) is =
+    either h r (request.Cut link) (is_receiver h.links r link) (cut_of (sender_over h.sides link), h) (reply.Code code.BadRequest, h)
+    (nothing refl) (nothing refl)
 
 -- ---- receives of any source
 
@@ -273,8 +296,29 @@ told_named h laid r (request.Claimed now k) is n done e = go (may_receive h.clai
         let at : suc c.place ≡ n = (let same = same_post k n _ _ e in let its = c.numbered in omega (arith, same, its)) in
         subst (IsNamed (may_be_named h.board.lines)) at (claim_named h.board.lines c.place c.line c.what c.here c.claims)
     go false may now e = absurd (cc)
-told_named h laid r (request.Init sends comm peer tag parts size) is n done e = absurd is
-told_named h laid r (request.Cut link) is n done e = absurd is
+told_named h laid r (request.Init sends comm peer tag parts size) is n done e =
+    absurd (go (setup_of r sends comm peer tag parts size) (peer_of h.sides (setup_of r sends comm peer tag parts size)) e)
+  where
+    free : (s : Setup) (o : Option ℕ) → (init_first h s o).0 ≡ reply.Posted n done → ⊥
+    free s None e = absurd (cc)
+    free s (Some link) e = absurd (cc)
+
+    joined : (s : Setup) (t : Side) (b : Bool)
+        → (let o : Reply × HubView = cond b (side_added h s t.link) (reply.Code code.Shape, h) in o.0 ≡ reply.Posted n done) → ⊥
+    joined s t true e = absurd (cc)
+    joined s t false e = absurd (cc)
+
+    go : (s : Setup) (o : Option Side) → (init_with h s o).0 ≡ reply.Posted n done → ⊥
+    go s None e = free s (lowest_link h.links h.sides s) e
+    go s (Some t) e = joined s t (same_total s t.setup) e
+told_named h laid r (request.Cut link) is n done e =
+    absurd (go (is_receiver h.links r link) (sender_over h.sides link) e)
+  where
+    go : (b : Bool) (o : Option Side)
+        → (let x : Reply × HubView = cond b (cut_of o, h) (reply.Code code.BadRequest, h) in x.0 ≡ reply.Posted n done) → ⊥
+    go true None e = absurd (cc)
+    go true (Some t) e = absurd (cc)
+    go false o e = absurd (cc)
 
 -- so do they all
 pub tells_named : (h : HubView) → Laid h → (r : ℕ) (q : Request) → IsTold q → (x : Reply) → (outcome h r q).0 ≡ x
@@ -359,8 +403,14 @@ names_told h laid r (request.Claimed now n) listed rank hart stamp asks only_nam
     let q = request.Claimed now n in
     only (may_be_named h.board.lines) (may_be_named (outcome h r q).1.board.lines) rank hart (answer.Reply (outcome h r q).0) stamp
     (named_after h r q listed) only_named (tells_named h laid r q tt (outcome h r q).0 refl)
-names_told h laid r (request.Init sends comm peer tag parts size) listed rank hart stamp asks only_named = absurd listed
-names_told h laid r (request.Cut link) listed rank hart stamp asks only_named = absurd listed
+names_told h laid r (request.Init sends comm peer tag parts size) listed rank hart stamp asks only_named =
+    let q = request.Init sends comm peer tag parts size in
+    only (may_be_named h.board.lines) (may_be_named (outcome h r q).1.board.lines) rank hart (answer.Reply (outcome h r q).0) stamp
+    (named_after h r q listed) only_named (tells_named h laid r q tt (outcome h r q).0 refl)
+names_told h laid r (request.Cut link) listed rank hart stamp asks only_named =
+    let q = request.Cut link in
+    only (may_be_named h.board.lines) (may_be_named (outcome h r q).1.board.lines) rank hart (answer.Reply (outcome h r q).0) stamp
+    (named_after h r q listed) only_named (tells_named h laid r q tt (outcome h r q).0 refl)
 
 pub listed_of : (patterns : Patterns) (r : ℕ) (w : Bool) (q : Request) → IsAllowed patterns r (pattern_of_request w q) → IsListed q
 listed_of patterns r w (request.Send sync comm dest tag bytes) is = tt
@@ -371,8 +421,8 @@ listed_of patterns r w (request.All ns) is = tt
 listed_of patterns r w (request.Probe comm source tag) is = tt
 listed_of patterns r w (request.Claim comm source tag) is = tt
 listed_of patterns r w (request.Claimed now n) is = tt
-listed_of patterns r w (request.Init sends comm peer tag parts size) is = absurd is
-listed_of patterns r w (request.Cut link) is = absurd is
+listed_of patterns r w (request.Init sends comm peer tag parts size) is = tt
+listed_of patterns r w (request.Cut link) is = tt
 
 -- ---- a turn, by what it asks
 
@@ -382,13 +432,25 @@ IsOwn Ask.Local = Unit {0}
 IsOwn Ask.Idle = Unit {0}
 IsOwn _ = ⊥
 
--- a turn of its own, or a call of the hub
+-- a turn of its own, a call of the hub, or a turn at a box
 abbrev pub IsMade : Ask → Type 0
-IsMade Ask.Plain = Unit {0}
-IsMade Ask.Local = Unit {0}
-IsMade Ask.Idle = Unit {0}
-IsMade (Ask.Hub q) = Unit {0}
-IsMade _ = ⊥
+IsMade Ask.Held = ⊥
+IsMade _ = Unit {0}
+
+-- a turn of its own, or a call of the hub: there is one turn alone
+abbrev pub IsOnly : Ask → Type 0
+IsOnly Ask.Plain = Unit {0}
+IsOnly Ask.Local = Unit {0}
+IsOnly Ask.Idle = Unit {0}
+IsOnly (Ask.Hub q) = Unit {0}
+IsOnly _ = ⊥
+
+pub only_made : (a : Ask) → IsOnly a → IsMade a
+only_made Ask.Plain is = tt
+only_made Ask.Local is = tt
+only_made Ask.Idle is = tt
+only_made (Ask.Hub q) is = tt
+only_made _ is = absurd is
 
 pub made_of : (patterns : Patterns) (r : ℕ) (w : Bool) (a : Ask) → IsAllowed patterns r (pattern_of_ask w a) → IsMade a
 made_of patterns r w Ask.Plain is = tt
@@ -396,20 +458,21 @@ made_of patterns r w Ask.Local is = tt
 made_of patterns r w Ask.Idle is = tt
 made_of patterns r w (Ask.Hub q) is = tt
 made_of patterns r w Ask.Held is = absurd is
-made_of patterns r w (Ask.Ready link part bytes) is = absurd is
-made_of patterns r w (Ask.Look link part) is = absurd is
-made_of patterns r w (Ask.Freed link part) is = absurd is
+made_of patterns r w (Ask.Ready link part bytes) is = tt
+made_of patterns r w (Ask.Look link part) is = tt
+made_of patterns r w (Ask.Freed link part) is = tt
 
 pub made_within : (patterns : Patterns) (r hart : ℕ) (rank : Rank) → IsAllowed patterns r (pattern_of rank hart)
     → IsMade (asked rank hart)
 made_within patterns r hart rank is = made_of patterns r (waits_on (doing rank.site (part_of rank hart))) (asked rank hart) is
 
--- it changes its rank alone, or makes a call
+-- it changes its rank alone, or makes a call, or meets a box
 pub data Gone (r hart : ℕ) (c new : Cluster) (rank : Rank) : Type 0 where
   alone : (stamp : ℕ) → IsOwn (asked rank hart) → new.ranks ≡ slice_set c.ranks r (told rank hart answer.Alone stamp)
       → new.journal ≡ c.journal → new.boxes ≡ c.boxes
       → Gone r hart c new rank
   called : (q : Request) → asked rank hart ≡ Ask.Hub q → Called r hart c new rank q → Gone r hart c new rank
+  met : IsAtBox (asked rank hart) → AtBox r hart c new rank → Gone r hart c new rank
 
 pub gone : (r hart : ℕ) (c new : Cluster) (rank : Rank) → slice_get c.ranks r ≡ Some rank → IsMade (asked rank hart)
     → Turn r hart c new
@@ -422,7 +485,7 @@ gone r hart c new rank there made turn = go (asked rank hart) refl
     is_turn : IsTurn c turn.step rank (asked rank hart) new
     is_turn = subst (λ h. IsTurn c turn.step rank (asked rank h) new) turn.hart (turns_law c new turn.step rank here turn.leads)
 
-    only : (kind : Kind) → asked rank hart ≡ asked rank hart → IsOwn (asked rank hart) → IsOnly c turn.step rank kind answer.Alone new
+    only : (kind : Kind) → asked rank hart ≡ asked rank hart → IsOwn (asked rank hart) → IsAlone c turn.step rank kind answer.Alone new
         → Gone r hart c new rank
     only kind e own is =
         alone turn.step.stamp own
@@ -432,15 +495,18 @@ gone r hart c new rank there made turn = go (asked rank hart) refl
         (ap (λ (k : Cluster). k.journal) is.1)
         (ap (λ (k : Cluster). k.boxes) is.1)
 
+    meets : IsAtBox (asked rank hart) → Gone r hart c new rank
+    meets at = met at (at_box r hart c new rank there at turn)
+
     go : (a : Ask) → asked rank hart ≡ a → Gone r hart c new rank
     go Ask.Plain is = only Kind.Plain refl (subst IsOwn (sym is) tt) (subst (λ a. IsTurn c turn.step rank a new) is is_turn)
     go Ask.Local is = only Kind.Local refl (subst IsOwn (sym is) tt) (subst (λ a. IsTurn c turn.step rank a new) is is_turn)
     go Ask.Idle is = only Kind.Idle refl (subst IsOwn (sym is) tt) (subst (λ a. IsTurn c turn.step rank a new) is is_turn)
     go (Ask.Hub q) is = called q is (call_of r hart c new rank q there is turn)
     go Ask.Held is = absurd (subst IsMade is made)
-    go (Ask.Ready link part bytes) is = absurd (subst IsMade is made)
-    go (Ask.Look link part) is = absurd (subst IsMade is made)
-    go (Ask.Freed link part) is = absurd (subst IsMade is made)
+    go (Ask.Ready link part bytes) is = meets (subst IsAtBox (sym is) tt)
+    go (Ask.Look link part) is = meets (subst IsAtBox (sym is) tt)
+    go (Ask.Freed link part) is = meets (subst IsAtBox (sym is) tt)
 
 -- ---- posts
 
@@ -469,6 +535,15 @@ grows_by harts r c new turn =
     )
 
 -- ---- a turn keeps what holds
+
+-- a box is set
+sound_set : (boxes : List Box) (n : ℕ) (box : Box) → AreSound boxes → AlikeBoxes box box → AreSound (slice_set boxes n box)
+sound_set boxes n box sound same i z here = elim (cases_eq n i) [
+  | inl at ↦
+      let w = was_there boxes n box z (subst (λ k. slice_get (slice_set boxes n box) k ≡ Some z) (sym at) here) in
+      subst (λ (b : Box). AlikeBoxes b b) w.0 same
+  | inr other ↦ sound i z (sym (get-set_other boxes n i box other) ∙ here)
+]
 
 module _ (search : Search) (r : ℕ) (c new : Cluster) (rank : Rank) (there : slice_get c.ranks r ≡ Some rank)
     (good : IsGood search c) (within : IsWithin search c r) (turn : Turn r (search.harts r) c new) where
@@ -510,6 +585,23 @@ module _ (search : Search) (r : ℕ) (c new : Cluster) (rank : Rank) (there : sl
           ((wake_law.stands) rank (search.harts r) stamp a (good.stands r rank there) bytes)
           good.stands
 
+      -- a turn at a box
+      left : (a : Answer) (stamp : ℕ) (now : List Box) → (l : Leaves r (search.harts r) c new rank a stamp now)
+          → TellsOnly (may_be_named (hub_of c.journal).board.lines) a → AreSound now
+          → ((s : ℕ) (x : Rank) → slice_get new.ranks s ≡ Some x → StandsAtCall x (search.harts s))
+          → IsGood search new
+      left a stamp now l tells sound stands = record {
+        waits = subst (λ j. WaitsWithin search.wild (hub_of j)) (sym l.journal) good.waits;
+        names = names_after a stamp l.ranks
+            (λ place named. ap (λ j. may_be_named (hub_of j).board.lines place) l.journal ∙ named)
+            (subst (λ j. NamesOnly (may_be_named (hub_of j).board.lines) (told rank (search.harts r) a stamp))
+            (sym l.journal)
+            (only (may_be_named (hub_of c.journal).board.lines) (may_be_named (hub_of c.journal).board.lines) rank
+            (search.harts r) a stamp (λ place named. named) (good.names r rank there) tells));
+        boxes = subst AreSound (sym l.boxes) sound;
+        stands = stands;
+      }
+
       go : Gone r (search.harts r) c new rank → IsGood search new
       go (alone stamp own ranks journal boxes) = record {
         waits = subst (λ j. WaitsWithin search.wild (hub_of j)) (sym journal) good.waits;
@@ -519,7 +611,7 @@ module _ (search : Search) (r : ℕ) (c new : Cluster) (rank : Rank) (there : sl
             (sym journal)
             (only (may_be_named (hub_of c.journal).board.lines) (may_be_named (hub_of c.journal).board.lines) rank
             (search.harts r) answer.Alone stamp (λ place named. named) (good.names r rank there) tt));
-        boxes = subst (λ bs. (i : ℕ) (box : Box) → slice_get bs i ≡ Some box → AlikeBoxes box box) (sym boxes) good.boxes;
+        boxes = subst AreSound (sym boxes) good.boxes;
         stands = stands_after answer.Alone stamp ranks tt;
       }
       go (called q asks k) =
@@ -538,6 +630,23 @@ module _ (search : Search) (r : ℕ) (c new : Cluster) (rank : Rank) (there : sl
                 (told rank (search.harts r) (answer.Reply o.0) k.stamp)) (sym k.hubs)
                 (names_told (hub_of c.journal) (laid_after c.journal.links (calls_of c.journal.entries)) r q listed rank (search.harts r)
                 k.stamp asks (good.names r rank there)));
-            boxes = subst (λ bs. (i : ℕ) (box : Box) → slice_get bs i ≡ Some box → AlikeBoxes box box) (sym k.boxes) good.boxes;
+            boxes = subst AreSound (sym k.boxes) good.boxes;
             stands = stands_after (answer.Reply o.0) k.stamp k.ranks tt;
           }
+      go (met at (readied link part bytes box stamp asks is_box empty l)) =
+          left answer.Alone stamp _ l tt
+          (sound_set c.boxes (box_number link part) (with_made box stamp bytes) good.boxes
+          (made_alike box box bytes stamp stamp empty empty))
+          (stands_after answer.Alone stamp l.ranks tt)
+      go (met at (took link part bytes box stamp asks is_box holds l)) =
+          let full = holds_too box box bytes (good.boxes (box_number link part) box is_box) holds in
+          left (answer.Taken bytes) stamp _ l tt
+          (sound_set c.boxes (box_number link part) (with_taken box stamp) good.boxes
+          (taken_alike box box bytes stamp stamp full.0 full.1))
+          (each_rank (λ s x. StandsAtCall x (search.harts s)) (answer.Taken bytes) stamp l.ranks
+          (stands_taken rank (search.harts r) stamp bytes (good.stands r rank there) at)
+          good.stands)
+      go (met at (freed link part box stamp asks is_box empty l)) =
+          left answer.Freed stamp c.boxes l tt good.boxes (stands_after answer.Freed stamp l.ranks tt)
+      go (met at (misses stamp look l)) =
+          left answer.Missed stamp c.boxes l tt good.boxes (stands_after answer.Missed stamp l.ranks tt)

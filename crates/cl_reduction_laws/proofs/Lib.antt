@@ -1,4 +1,8 @@
 pub mod Awake
+pub mod AtBoxes
+pub mod Places
+pub mod Meeting
+pub mod Transfers
 pub mod Naming
 pub mod Good
 pub mod Machine

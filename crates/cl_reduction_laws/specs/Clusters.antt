@@ -1,11 +1,10 @@
 -- Clusters whose ranks have one hart each, as a machine of ranks that take turns.
-use Rattle.std.specs.Prelude.{ℕ, ◌+◌, ◌<◌, ◌≡◌, ◌≢◌, ◌⊎◌, ◌&&◌, Bool, not, true, List, length, map, Option, Some, None}
+use Rattle.std.specs.Prelude.{ℕ, ◌+◌, ◌<◌, ◌≡◌, ◌≢◌, ◌⊎◌, ◌&&◌, Bool, not, true, false, List, length, map, Option, Some, None}
 use Rattle.std.specs.List.{slice_get}
 use Rattle.std.specs.Option.{is_some}
 use Rattle.rv_hart.specs.declared.state.Mode.{Mode}
 use Rattle.rv_hart.specs.declared.state.Mode.TheVariants.{Waiting}
 use Rattle.rv_hart.specs.declared.state.Wait.TheVariants.{Post}
-use Rattle.mp_types.specs.declared.replies.Reply.TheVariants.{NotYet}
 use Rattle.mp_types.specs.declared.requests.Request.{Request}
 use Rattle.mp_match.specs.declared.posts.Line.{Line}
 use Rattle.mp_match.specs.Board.{is_standard}
@@ -17,15 +16,17 @@ use Rattle.cl_state.specs.Rank.{Rank}
 use Rattle.cl_state_laws.specs.Awake.{StandsAtCall, awake}
 use Rattle.cl_state_laws.specs.Vain.{IsStopped, mode_of, waits_on}
 use Rattle.cl_first_laws.specs.Below.{NamesOnly}
-use Rattle.cl_machine.specs.Boxes.{Box}
+use Rattle.cl_machine.specs.Boxes.{Box, Holds, IsEmpty, box_number}
 use Rattle.cl_machine.specs.Cluster.{Cluster}
 use Rattle.cl_machine.specs.Journal.{reply_in}
 use Rattle.cl_order_laws.specs.Alike.{AlikeBoxes, hub_of}
+use Rattle.cl_order_laws.specs.Closed.{IsInVain}
+use Rattle.cl_order_laws.specs.Orders.{is_miss}
 use Rattle.cl_order_laws.specs.SureAsks.{IsBusy, IsReady}
 use Rattle.cl_first_laws.specs.Below.{AreAlike, AskWithin}
 use Rattle.cl_first_laws.specs.Laws.{Turn}
 use Rattle.cl_schedule_laws.specs.Machines.{Machine, Ranks}
-use Rattle.cl_reduction_laws.specs.Patterns.{IsAllowed, MayPass, Pattern, Patterns, pattern_of}
+use Rattle.cl_reduction_laws.specs.Patterns.{IsAllowed, MayMeet, MayPass, Pattern, Patterns, pattern_of}
 
 -- ---- what a search is told
 
@@ -87,8 +88,26 @@ weight_of (Some rank) hart = weight_in (mode_of rank hart)
 abbrev pub IsStill : Cluster → ℕ → Rank → ℕ → Type 0
 IsStill c s rank hart =
     IsStopped (mode_of rank hart)
-    ⊎ ((q : Request) × (asked rank hart ≡ Ask.Hub q) × (waits_on (doing rank.site (part_of rank hart)) ≡ true)
-    × (reply_in c.journal s q ≡ NotYet))
+    ⊎ ((waits_on (doing rank.site (part_of rank hart)) ≡ true) × IsInVain c s (asked rank hart))
+
+-- a partition is made ready, or a box is looked at
+abbrev pub IsAtBox : Ask → Type 0
+IsAtBox (Ask.Ready link part bytes) = Unit {0}
+IsAtBox (Ask.Look link part) = Unit {0}
+IsAtBox (Ask.Freed link part) = Unit {0}
+IsAtBox _ = ⊥
+
+-- the hart makes a partition ready whose box is empty; or it makes a call anew until a partition came or was taken, and that is
+-- so. A link has 16 boxes
+abbrev pub FindsBox : Cluster → Bool → Ask → Type 0
+FindsBox c waits (Ask.Ready link part bytes) =
+    (box : Box) × (slice_get c.boxes (box_number link part) ≡ Some box) × IsEmpty box × (part < 16)
+FindsBox c waits (Ask.Freed link part) =
+    (waits ≡ true) × (box : Box) × (slice_get c.boxes (box_number link part) ≡ Some box) × IsEmpty box × (part < 16)
+FindsBox c waits (Ask.Look link part) =
+    (waits ≡ true) × (box : Box) × (bytes : List ℕ) × (slice_get c.boxes (box_number link part) ≡ Some box) × Holds box bytes
+    × (part < 16)
+FindsBox c waits _ = ⊥
 
 -- a turn of its own, or a call
 abbrev pub CanGo : Ask → Type 0
@@ -98,13 +117,16 @@ CanGo (Ask.Hub q) = Unit {0}
 CanGo _ = ⊥
 
 -- needs only its rank; or asks the hub for what is there and stays; or posts what may pass whatever other ranks may ask;
--- or can go on where no other rank can
+-- or finds a box of a link on whose side no other rank may be; or can go on where no other rank can
 pub data GoesFirst (search : Search) (c : Cluster) (r : ℕ) (rank : Rank) : Type 0 where
   alone : IsBusy (asked rank (search.harts r)) → GoesFirst search c r rank
   collects : (q : Request) → asked rank (search.harts r) ≡ Ask.Hub q → IsReady q (reply_in c.journal r q)
       → GoesFirst search c r rank
   posts : (q : Request) → asked rank (search.harts r) ≡ Ask.Hub q → IsPosting q
       → ((s : ℕ) (p : Pattern) → s ≢ r → IsAllowed search.patterns s p → MayPass search.wild r q s p)
+      → GoesFirst search c r rank
+  meets : FindsBox c (waits_on (doing rank.site (part_of rank (search.harts r)))) (asked rank (search.harts r))
+      → ((s : ℕ) (p : Pattern) → s ≢ r → IsAllowed search.patterns s p → MayMeet (asked rank (search.harts r)) p)
       → GoesFirst search c r rank
   lone : CanGo (asked rank (search.harts r))
       → ((s : ℕ) (other : Rank) → s ≢ r → slice_get c.ranks s ≡ Some other → IsStill c s other (search.harts s))
@@ -130,12 +152,19 @@ pub record IsReadyPoll (search : Search) (c : Cluster) (r : ℕ) : Type 0 where
   pub ready : IsReady q (reply_in c.journal r q)
   pub within : IsWithin search c r
 
+-- ---- turns that find what they ask for
+
+-- a turn that doesn't miss: a look at a box may miss whatever the box has
+abbrev pub Found : ℕ → ℕ → Cluster → Cluster → Type 0
+Found r hart old new = (turn : Turn r hart old new) × (is_miss turn.step.kind ≡ false)
+
 -- ---- the machine
 
 abbrev pub cluster_machine : Search → Machine
 cluster_machine search = record {
   State = State search;
   Goes = λ r a b. Turn r (search.harts r) a.cluster b.cluster;
+  Finds = λ r a b. Found r (search.harts r) a.cluster b.cluster;
   Alike = λ a b. AreAlike search.wild (awake_cluster a.cluster) (awake_cluster b.cluster);
   IsWithin = λ a r. IsWithin search a.cluster r;
   HasRoom = λ a. posts_of a.cluster + 3 < 65536;

@@ -1,5 +1,5 @@
 -- What ranks ask for, as patterns without post numbers and without bytes, and which turns may pass one another.
-use Rattle.std.specs.Prelude.{ℕ, ◌≡◌, Bool, true, false, [], None, cond}
+use Rattle.std.specs.Prelude.{ℕ, ◌≡◌, ◌≢◌, Bool, true, false, [], None, cond, nat_lt}
 use Rattle.mp_types.specs.declared.requests.Request.{Request}
 use Rattle.mp_types.specs.declared.requests.Request.TheVariants as request
 use Rattle.mp_source_laws.specs.Alike.{Wild}
@@ -15,7 +15,7 @@ pub data Pattern : Type 0 where
   -- a send of this mode to this rank in this communicator
   send : Bool → ℕ → ℕ → Pattern
   receive : Pattern
-  -- WAIT, WAITALL and PROBE, and the poll of a RECV or SSEND: where nothing is there the rank waits on
+  -- a question to the hub by WAIT, WAITALL or PROBE, and the poll of a RECV or SSEND: where nothing is there the rank waits on
   wait : Pattern
   -- TEST of a receive, and IPROBE: where nothing is there the rank goes on
   poll : Pattern
@@ -23,7 +23,15 @@ pub data Pattern : Type 0 where
   poll_of_sends : Pattern
   -- MPROBE, IMPROBE, MRECV and IMRECV
   claim : Pattern
-  -- partitions, which have no pattern of their own yet
+  -- PSEND_INIT and PRECV_INIT
+  initialisation : Pattern
+  -- TEST and PARRIVED that ask how a sender cut its transfer: where that isn't known the rank goes on
+  poll_of_cuts : Pattern
+  -- by the sender on this link: PREADY, and the question whether a partition was taken
+  by_sender : ℕ → Pattern
+  -- by the receiver on this link: a look at a partition
+  by_receiver : ℕ → Pattern
+  -- a WAIT that its own rank holds up, which has no pattern yet
   unlisted : Pattern
 
 abbrev pub pattern_of_request : Bool → Request → Pattern
@@ -35,14 +43,22 @@ pattern_of_request waits (request.All posts) = cond waits wait poll_of_sends
 pattern_of_request waits (request.Probe comm source tag) = cond waits wait poll
 pattern_of_request waits (request.Claim comm source tag) = claim
 pattern_of_request waits (request.Claimed now message) = claim
-pattern_of_request waits _ = unlisted
+pattern_of_request waits (request.Init sends comm peer tag parts size) = initialisation
+pattern_of_request waits (request.Cut link) = cond waits wait poll_of_cuts
+
+-- a link has 16 boxes
+abbrev pub at_box : ℕ → Pattern → Pattern
+at_box part p = cond (nat_lt part 16) p unlisted
 
 abbrev pub pattern_of_ask : Bool → Ask → Pattern
 pattern_of_ask waits Ask.Plain = own
 pattern_of_ask waits Ask.Local = own
 pattern_of_ask waits Ask.Idle = own
 pattern_of_ask waits (Ask.Hub q) = pattern_of_request waits q
-pattern_of_ask waits _ = unlisted
+pattern_of_ask waits (Ask.Ready link part bytes) = at_box part (by_sender link)
+pattern_of_ask waits (Ask.Freed link part) = at_box part (by_sender link)
+pattern_of_ask waits (Ask.Look link part) = at_box part (by_receiver link)
+pattern_of_ask waits Ask.Held = unlisted
 
 -- of what the hart asks in its next turn
 abbrev pub pattern_of : Rank → ℕ → Pattern
@@ -65,7 +81,7 @@ IsAllowed patterns r p = patterns r p ≡ true
 
 -- a send or a receive q of rank r may go before what rank s asks. No rank can tell which was first: two sends to one rank
 -- are told apart where it asks for any source, a synchronous send tells whether its receive was posted, a poll tells that
--- nothing is there, and a claim tells a number that counts all posts before it
+-- nothing is there, and a claim tells a number that counts all posts before it. Partitions have nothing to do with posts
 abbrev pub MayPass : Wild → ℕ → Request → ℕ → Pattern → Type 0
 MayPass wild r q s own = Unit {0}
 MayPass wild r q s wait = Unit {0}
@@ -75,4 +91,17 @@ MayPass wild r q s receive = NoSync r q s (request.Recv false 0 None None)
 MayPass wild r q s poll = BringsNothing q s (request.Collect 0)
 MayPass wild r q s poll_of_sends = BringsNothing q s (request.Finished 0)
 MayPass wild r q s claim = ⊥
+MayPass wild r q s initialisation = Unit {0}
+MayPass wild r q s poll_of_cuts = Unit {0}
+MayPass wild r q s (by_sender link) = Unit {0}
+MayPass wild r q s (by_receiver link) = Unit {0}
 MayPass wild r q s unlisted = ⊥
+
+-- a turn at a box may go before what another rank asks, unless that rank is on the same side of the link: only the sender fills
+-- a box, and only the receiver empties it
+abbrev pub MayMeet : Ask → Pattern → Type 0
+MayMeet (Ask.Ready link part bytes) (by_sender other) = link ≢ other
+MayMeet (Ask.Freed link part) (by_sender other) = link ≢ other
+MayMeet (Ask.Look link part) (by_receiver other) = link ≢ other
+MayMeet _ unlisted = ⊥
+MayMeet _ _ = Unit {0}

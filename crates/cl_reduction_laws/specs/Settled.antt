@@ -1,8 +1,11 @@
 -- Clusters from which turns that nobody contests lead to clusters of a list, wherever each of them may lead.
-use Rattle.std.specs.Prelude.{ℕ, zero, suc, ◌+◌, ◌<◌, ◌≡◌, ◌≢◌, ◌⊎◌, true, length, Some}
+use Rattle.std.specs.Prelude.{ℕ, zero, suc, ◌+◌, ◌<◌, ◌≡◌, ◌≢◌, ◌⊎◌, true, List, length, Some}
 use Rattle.std.specs.List.{slice_get}
+use Rattle.rv_image_types.specs.declared.images.Link.{Link}
 use Rattle.mp_types.specs.declared.replies.Reply.TheVariants.{NotYet}
 use Rattle.mp_types.specs.declared.requests.Request.TheVariants as request
+use Rattle.mp_transfers.specs.Inits.{is_receiver}
+use Rattle.mp_wait_laws.specs.Waits.{sends_over}
 use Rattle.mp_clash_laws.specs.Exchanges.{WaitsWithin}
 use Rattle.cl_state.specs.declared.asking.Ask.{Ask}
 use Rattle.cl_state.specs.Asked.{asked, doing, part_of}
@@ -14,8 +17,8 @@ use Rattle.cl_machine.specs.Journal.{reply_in}
 use Rattle.cl_order_laws.specs.Alike.{hub_of}
 use Rattle.cl_order_laws.specs.Closed.{Plans, WaitsInVain}
 use Rattle.cl_first_laws.specs.Below.{AreAlike}
-use Rattle.cl_first_laws.specs.Laws.{Turn}
-use Rattle.cl_reduction_laws.specs.Clusters.{GoesFirst, IsWithin, Search, awake_cluster, posts_of}
+use Rattle.cl_reduction_laws.specs.Clusters.{Found, GoesFirst, IsWithin, Search, awake_cluster, posts_of}
+use Rattle.cl_reduction_laws.specs.Patterns.{Patterns, by_receiver, by_sender}
 
 -- each rank asks within the patterns
 abbrev pub AllWithin : Search → Cluster → Type 0
@@ -27,14 +30,14 @@ HasAlike search Is c =
     (node : Cluster) × Is node × AreAlike search.wild (awake_cluster c) (awake_cluster node)
 
 -- in so many turns at most, each of a rank that goes first, it leads to one that is alike one of these, wherever each turn
--- may lead; and each rank asks within the patterns all the way
+-- may lead that finds what it asks for; and each rank asks within the patterns all the way
 abbrev pub Settles : Search → (Cluster → Type 0) → ℕ → Cluster → Type 0
 Settles search Is zero c = AllWithin search c × HasAlike search Is c
 Settles search Is (suc n) c =
     AllWithin search c
     × (HasAlike search Is c
     ⊎ ((r : ℕ) × (rank : Rank) × (slice_get c.ranks r ≡ Some rank) × GoesFirst search c r rank
-    × ((new : Cluster) → Turn r (search.harts r) c new → Settles search Is n new)))
+    × ((new : Cluster) → Found r (search.harts r) c new → Settles search Is n new)))
 
 abbrev pub IsSettled : Search → (Cluster → Type 0) → Cluster → Type 0
 IsSettled search Is c = (n : ℕ) × Settles search Is n c
@@ -53,14 +56,21 @@ RestsIfWaiting search c r rank =
     waits_on (doing rank.site (part_of rank (search.harts r))) ≡ true
     → WaitsInVain c r rank (search.harts r) ⊎ FindsClaim c r (asked rank (search.harts r))
 
+-- who may be the sender on a link is its sender, and who may be the receiver its receiver
+pub record AreOnSides (links : List Link) (patterns : Patterns) : Type 0 where
+  pub senders : (r link : ℕ) → patterns r (by_sender link) ≡ true → sends_over links link r ≡ true
+  pub receivers : (r link : ℕ) → patterns r (by_receiver link) ≡ true → is_receiver links r link ≡ true
+
 -- what is known of each: what ranks ask is within the patterns, receives of any source wait only where those may be made, no
--- send is refused, who waits waits in vain or finds what it claims, and a hart that is to make its call anew stands at it
+-- send is refused, who waits waits in vain or finds what it claims, a hart that is to make its call anew stands at it, and ranks are on their
+-- own sides of links
 pub record IsFit (search : Search) (c : Cluster) : Type 0 where
   pub within : AllWithin search c
   pub waits : WaitsWithin search.wild (hub_of c.journal)
   pub room : posts_of c + 3 < 65536
   pub rests : (r : ℕ) (rank : Rank) → slice_get c.ranks r ≡ Some rank → RestsIfWaiting search c r rank
   pub stands : (r : ℕ) (rank : Rank) → slice_get c.ranks r ≡ Some rank → StandsAtCall rank (search.harts r)
+  pub sides : AreOnSides (hub_of c.journal).links search.patterns
 
 -- each rank has one hart, which takes all its turns
 pub record IsSingle (search : Search) (plans : Plans) (c : Cluster) : Type 0 where

@@ -1,8 +1,8 @@
 -- Where turns that are sure go first, every run can be continued to a node.
-use Rattle.std.proofs.Common.{◌≡◌, ℕ, zero, suc, ◌+◌, ◌<◌, ◌≤◌, ◌⊎◌, inl, inr, true, List, [], ◌∷◌, ◌++◌, length, refl, sym, subst, arith}
+use Rattle.std.proofs.Common.{◌≡◌, ℕ, zero, suc, ◌+◌, ◌<◌, ◌≤◌, ◌⊎◌, inl, inr, Bool, true, false, List, [], ◌∷◌, ◌++◌, length, refl, sym, subst, arith}
 use Rattle.std.proofs.lemmas.Bool.{cases_eq, cases_lt}
 use Rattle.cl_schedule_laws.specs.Machines.{AllWithin, GoesOn, IsMachine, Machine, Ranks}
-use Rattle.cl_schedule_laws.specs.Laws.{HasFound, IsClosed, IsFound, IsOnItsWay, Kept, Leads, ScheduleLaw, kept_of, machine_of}
+use Rattle.cl_schedule_laws.specs.Laws.{HasFound, IsClosed, IsFound, IsNearer, IsOnItsWay, Kept, Leads, ScheduleLaw, kept_of, machine_of}
 use Rattle.cl_schedule_laws.proofs.Walks.{AllRoom, Front, Fronted, Reaches, along, front, heavy, is_next, is_there, longer_too, snoc, stays, then}
 
 module _ (m : Machine) (kept : Kept m) (is : IsMachine m) (closed : IsClosed m kept) where
@@ -124,19 +124,18 @@ module _ (m : Machine) (kept : Kept m) (is : IsMachine m) (closed : IsClosed m k
 
     -- where some ranks are sure
     module _ (set : Ranks) (one : ℕ) (leads : Leads m kept n start one)
-        (each : (r : ℕ) → set r ≡ true → Leads m kept n start r ⊎ ((b : State) → m.Goes r start b → m.Alike start b))
+        (each : (r : ℕ) (b : State) → set r ≡ true → m.Goes r start b → IsNearer m kept n b ⊎ m.Alike start b)
         (c : State) where
-      along_sooner : (r weight long : ℕ) → weight ≤ w + m.weight start r → Leads m kept n start r
-          → Fronted m is r start c weight long
+      along_sooner : {sought : Bool} → (r weight long : ℕ) → weight ≤ w + m.weight start r
+          → (f : Fronted m is sought r start c weight long) → IsNearer m kept n f.first
           → Found c
-      along_sooner r weight long most on f =
-          let s = on f.first f.goes in
+      along_sooner r weight long most f s =
           found_before c f.end f.more (found_alike f.last f.end (is.back f.end f.last f.alike)
           (known.sooner s.0 f.first f.last f.ranks s.2 f.walk
           ((let k = f.light in omega (arith, k, most)), s.1)))
 
       -- a turn in vain is left out
-      left_out : (r weight : ℕ) → weight ≤ w → (f : Fronted m is r start c weight l) → m.Alike start f.first → Found c
+      left_out : (r weight : ℕ) → weight ≤ w → (f : Fronted m is false r start c weight l) → m.Alike start f.first → Found c
       left_out r weight most f vain =
           let t = along m is f.ranks f.first start f.last (is.back start f.first vain) f.walk f.inside in
           let same = is.on f.end f.last t.last f.alike t.alike in
@@ -152,12 +151,12 @@ module _ (m : Machine) (kept : Kept m) (is : IsMachine m) (closed : IsClosed m k
           ]))
 
       at_sure : (weight : ℕ) → weight ≤ w → Front m is set one start c weight l → Found c
-      at_sure weight most (is_there r among f) = elim (each r among) [
-        | inl on ↦ along_sooner r weight l (omega (arith, most)) on f
-        | inr vain ↦ left_out r weight most f (vain f.first f.goes)
+      at_sure weight most (is_there r among f) = elim (each r f.first among f.goes) [
+        | inl on ↦ along_sooner r weight l (omega (arith, most)) f on
+        | inr vain ↦ left_out r weight most f vain
       ]
       at_sure weight most (is_next f) =
-          along_sooner one (weight + m.weight start one) (suc l) (omega (arith, most)) leads f
+          along_sooner one (weight + m.weight start one) (suc l) (omega (arith, most)) f (leads f.first f.goes)
 
     found : (c : State) (rs : List ℕ) → (walk : GoesOn m rs start c) → heavy m is rs start c walk ≤ w → length rs ≤ l
         → IsOnItsWay m kept n start

@@ -1,8 +1,8 @@
 -- Walks: longer by a turn, along likeness, and with a sure turn put first.
-use Rattle.std.proofs.Common.{◌≡◌, ℕ, suc, ◌+◌, ◌≤◌, ◌<◌, true, false, length, ◌⊎◌, inl, inr, List, [], ◌∷◌, ◌++◌, refl, sym, ap, ◌∙◌, subst, arith}
+use Rattle.std.proofs.Common.{◌≡◌, ℕ, suc, ◌+◌, ◌≤◌, ◌<◌, Bool, true, false, length, ◌⊎◌, inl, inr, List, [], ◌∷◌, ◌++◌, refl, sym, ap, ◌∙◌, subst, arith}
 use Rattle.std.specs.Prelude.{◌≢◌}
 use Rattle.std.proofs.lemmas.Bool.{cases_Bool, cases_eq}
-use Rattle.cl_schedule_laws.specs.Machines.{AllWithin, GoesOn, IsExchanged, IsMachine, IsReordered, Machine, Ranks, at_once, r_polls, s_polls, weighs}
+use Rattle.cl_schedule_laws.specs.Machines.{AllWithin, GoesOn, IsExchanged, IsMachine, IsReordered, Machine, Ranks, Takes, at_once, r_polls, s_polls, weighs}
 
 module _ (m : Machine) (is : IsMachine m) where
   abbrev pub State : Type 0
@@ -191,10 +191,11 @@ module _ (m : Machine) (is : IsMachine m) where
       (x.0, then s x.0 t.1 x.1 (is.within s f t.0 t.2 asks), x.2)
 
   -- a turn of the rank, and turns behind it that weigh less by what the turn weighs, lead to what is alike the end, or
-  -- where some turns lead from it; where the rank's turn weighs nothing they are fewer
-  pub record Fronted (r : ℕ) (a c : State) (weight long : ℕ) : Type 0 where
+  -- where some turns lead from it; where the rank's turn weighs nothing they are fewer. If that is sought, the turn
+  -- found what it asks for
+  pub record Fronted (sought : Bool) (r : ℕ) (a c : State) (weight long : ℕ) : Type 0 where
     pub first : State
-    pub goes : m.Goes r a first
+    pub goes : Takes m sought r a first
     pub ranks : List ℕ
     pub last : State
     pub walk : Walk ranks first last
@@ -208,31 +209,38 @@ module _ (m : Machine) (is : IsMachine m) where
 
   -- turns of some ranks: one of theirs is among those taken, or that of this one can be taken at the end
   pub data Front (rs : Ranks) (one : ℕ) (a c : State) (weight long : ℕ) : Type 0 where
-    is_there : (r : ℕ) → rs r ≡ true → Fronted r a c weight long → Front rs one a c weight long
-    is_next : Fronted one a c (weight + m.weight a one) (suc long) → Front rs one a c weight long
+    is_there : (r : ℕ) → rs r ≡ true → Fronted false r a c weight long → Front rs one a c weight long
+    is_next : Fronted true one a c (weight + m.weight a one) (suc long) → Front rs one a c weight long
+
+  is_taken : (sought : Bool) (r : ℕ) (a b : State) → Takes m sought r a b → m.Goes r a b
+  is_taken true r a b takes = is.finds_goes r a b takes
+  is_taken false r a b takes = takes
 
   -- a turn of another rank before it
-  before : (r s n l : ℕ) (a b c : State) → s ≢ r → m.IsWithin a s → m.HasRoom a → m.Goes s a b
-      → ((e : State) → m.Goes r b e → IsExchanged m r s a e) → Fronted r b c n l
-      → Fronted r a c (m.weight a s + n) (suc l)
-  before r s n l a b c apart asks room goes all f = go x.reordered
+  before : (sought : Bool) (r s n l : ℕ) (a b c : State) → s ≢ r → m.IsWithin a s → m.HasRoom a → m.Goes s a b
+      → ((e : State) → Takes m sought r b e → IsExchanged m sought r s a e) → Fronted sought r b c n l
+      → Fronted sought r a c (m.weight a s + n) (suc l)
+  before sought r s n l a b c apart asks room goes all f = go x.reordered
     where
-      x : IsExchanged m r s a f.first
+      x : IsExchanged m sought r s a f.first
       x = all f.first f.goes
 
+      turn : m.Goes r a x.first
+      turn = is_taken sought r a x.first x.goes
+
       its : m.IsWithin x.first s
-      its = (is.own r s a x.first apart x.goes).0 asks
+      its = (is.own r s a x.first apart turn).0 asks
 
       same : m.weight x.first s ≡ m.weight a s
-      same = is.owns r s a x.first apart x.goes
+      same = is.owns r s a x.first apart turn
 
       mine : m.weight b r ≡ m.weight a r
       mine = is.owns s r a b (λ e. apart (sym e)) goes
 
       spaced : m.HasSpace x.first × m.HasSpace x.second
-      spaced = is.soon r s a x.first x.second room x.goes x.then
+      spaced = is.soon r s a x.first x.second room turn x.then
 
-      go : IsReordered m r s a f.first x.first x.second → Fronted r a c (m.weight a s + n) (suc l)
+      go : IsReordered m r s a f.first x.first x.second → Fronted sought r a c (m.weight a s + n) (suc l)
       go (at_once alike) =
           let t = along f.ranks f.first x.second f.last alike f.walk f.inside in
           record {
@@ -297,7 +305,7 @@ module _ (m : Machine) (is : IsMachine m) where
             alike = is.on ending.0 p.last t.last ending.2 t.alike;
           }
 
-  lighter : (r w n k l : ℕ) (a c : State) → w ≤ n → k ≤ l → Fronted r a c w k → Fronted r a c n l
+  lighter : {sought : Bool} → (r w n k l : ℕ) (a c : State) → w ≤ n → k ≤ l → Fronted sought r a c w k → Fronted sought r a c n l
   lighter r w n k l a c most longer f = record {
     first = f.first;
     goes = f.goes;
@@ -313,7 +321,7 @@ module _ (m : Machine) (is : IsMachine m) where
     alike = f.alike;
   }
 
-  fronted_alike : (r n l : ℕ) (a c d : State) → m.Alike c d → Fronted r a c n l → Fronted r a d n l
+  fronted_alike : {sought : Bool} → (r n l : ℕ) (a c d : State) → m.Alike c d → Fronted sought r a c n l → Fronted sought r a d n l
   fronted_alike r n l a c d alike f =
       let t = reaches_along c d f.end alike f.more in
       record {
@@ -350,22 +358,24 @@ module _ (m : Machine) (is : IsMachine m) where
     other_rank r s among apart same = (let e : rs s ≡ true = ap rs same ∙ among in absurd (cc))
 
     behind : (s n l : ℕ) (a b c : State) → rs s ≡ false → m.IsWithin a s → m.HasRoom a → m.Goes s a b
-        → ((r : ℕ) (e : State) → rs r ≡ true → m.Goes r b e → IsExchanged m r s a e) → Front rs one b c n l
+        → ((r : ℕ) (e : State) (found : Bool) → rs r ≡ true → Takes m found r b e → IsExchanged m found r s a e)
+        → Front rs one b c n l
         → Front rs one a c (m.weight a s + n) (suc l)
     behind s n l a b c apart asks room goes all (is_there r among f) =
         is_there r among
-        (before r s n l a b c (other_rank r s among apart) asks room goes (λ e turn. all r e among turn) f)
+        (before false r s n l a b c (other_rank r s among apart) asks room goes (λ e turn. all r e false among turn) f)
     behind s n l a b c apart asks room goes all (is_next f) =
         let same = is.owns s one a b (λ e. other_rank one s its apart (sym e)) goes in
         is_next
         (lighter one (m.weight a s + (n + m.weight b one)) (m.weight a s + n + m.weight a one) (suc (suc l)) (suc (suc l)) a c
         (omega (arith, same)) (omega arith)
-        (before one s (n + m.weight b one) (suc l) a b c (other_rank one s its apart) asks room goes
-        (λ e turn. all one e its turn) f))
+        (before true one s (n + m.weight b one) (suc l) a b c (other_rank one s its apart) asks room goes
+        (λ e turn. all one e true its turn) f))
 
     pub front : (qs : List ℕ) → Rest qs
     front [] a c sure walk inside room =
         let t = is.goes rs one a sure its in
+        let goes = is.finds_goes one a t.0 t.1 in
         is_next (record {
           first = t.0;
           goes = t.1;
@@ -377,7 +387,7 @@ module _ (m : Machine) (is : IsMachine m) where
           light = omega arith;
           short = λ none. omega arith;
           end = t.0;
-          more = then one t.0 stays (subst (λ x. m.Goes one x t.0) (sym walk) t.1)
+          more = then one t.0 stays (subst (λ x. m.Goes one x t.0) (sym walk) goes)
               (subst (λ x. m.IsWithin x one) (sym walk) (is.asks rs one a sure its));
           alike = is.itself t.0;
         })
@@ -406,7 +416,7 @@ module _ (m : Machine) (is : IsMachine m) where
         other : rs s ≡ false → Rest qs
             → m.Alike a walk.0
             ⊎ (m.AreSure walk.0 rs
-            × ((r : ℕ) (e : State) → rs r ≡ true → m.Goes r walk.0 e → IsExchanged m r s a e))
+            × ((r : ℕ) (e : State) (found : Bool) → rs r ≡ true → Takes m found r walk.0 e → IsExchanged m found r s a e))
             → Front rs one a c (m.weight a s + heavy qs walk.0 c walk.2) (suc (length qs))
         other apart rest (inl alike) =
             let home = is.back a walk.0 alike in

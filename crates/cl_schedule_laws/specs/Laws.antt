@@ -7,17 +7,21 @@ pub record Kept (m : Machine) : Type 1 where
   pub IsNode : m.State → Type 0
   pub Settles : ℕ → m.State → Type 0
 
--- wherever the rank's turn leads settles in fewer turns
-abbrev pub Leads : (m : Machine) → Kept m → ℕ → m.State → ℕ → Type 0
-Leads m kept n a r = (b : m.State) → m.Goes r a b → (fewer : ℕ) × (fewer < n) × kept.Settles fewer b
+-- it settles in fewer turns
+abbrev pub IsNearer : (m : Machine) → Kept m → ℕ → m.State → Type 0
+IsNearer m kept n b = (fewer : ℕ) × (fewer < n) × kept.Settles fewer b
 
--- the state is alike a node; or some ranks are sure, the turn of one of them leads on, and that of each other one does
--- or is in vain
+-- wherever a turn of the rank leads that finds what it asks for is nearer
+abbrev pub Leads : (m : Machine) → Kept m → ℕ → m.State → ℕ → Type 0
+Leads m kept n a r = (b : m.State) → m.Finds r a b → IsNearer m kept n b
+
+-- the state is alike a node; or some ranks are sure, a turn of one of them leads on if it finds what it asks for, and each
+-- turn of theirs leads on or is in vain
 abbrev pub IsOnItsWay : (m : Machine) → Kept m → ℕ → m.State → Type 0
 IsOnItsWay m kept n a =
     ((node : m.State) × kept.IsNode node × m.Alike a node)
     ⊎ ((rs : Ranks) × (one : ℕ) × m.AreSure a rs × (rs one ≡ true) × Leads m kept n a one
-    × ((r : ℕ) → rs r ≡ true → Leads m kept n a r ⊎ ((b : m.State) → m.Goes r a b → m.Alike a b)))
+    × ((r : ℕ) (b : m.State) → rs r ≡ true → m.Goes r a b → IsNearer m kept n b ⊎ m.Alike a b))
 
 pub record IsClosed (m : Machine) (kept : Kept m) : Type 0 where
   -- wherever a turn of any rank leads from a node settles
@@ -51,6 +55,7 @@ HasFound m kept =
 
 pub record Numbered : Type 0 where
   pub goes : ℕ → ℕ → ℕ → Bool
+  pub finds : ℕ → ℕ → ℕ → Bool
   pub alike : ℕ → ℕ → Bool
   pub within : ℕ → ℕ → Bool
   pub room : ℕ → Bool
@@ -65,6 +70,7 @@ abbrev pub machine_of : Numbered → Machine
 machine_of m = record {
   State = ℕ;
   Goes = λ r a b. m.goes r a b ≡ true;
+  Finds = λ r a b. m.finds r a b ≡ true;
   Alike = λ a b. m.alike a b ≡ true;
   IsWithin = λ a r. m.within a r ≡ true;
   HasRoom = λ a. m.room a ≡ true;

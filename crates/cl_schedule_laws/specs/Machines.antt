@@ -9,6 +9,8 @@ pub record Machine : Type 1 where
   pub State : Type 0
   -- a turn of this rank leads from the one to the other
   pub Goes : ℕ → State → State → Type 0
+  -- such a turn, which found what it asks for, if that may be missed
+  pub Finds : ℕ → State → State → Type 0
   -- the same, but for what no rank can ever be told
   pub Alike : State → State → Type 0
   -- what the rank asks for in its next turn is one of the patterns
@@ -48,9 +50,15 @@ pub data IsReordered (m : Machine) (r s : ℕ) (old new : m.State) (first second
   s_polls : m.IsReady new s → ((last : m.State) → m.Goes s new last → m.Alike last second)
       → IsReordered m r s old new first second
 
-pub record IsExchanged (m : Machine) (r s : ℕ) (old new : m.State) : Type 0 where
+-- a turn, or one that found what it asks for
+abbrev pub Takes : (m : Machine) → Bool → ℕ → m.State → m.State → Type 0
+Takes m true r a b = m.Finds r a b
+Takes m false r a b = m.Goes r a b
+
+-- turns of r and then of s, in place of turns of s and then of r
+pub record IsExchanged (m : Machine) (found : Bool) (r s : ℕ) (old new : m.State) : Type 0 where
   pub first : m.State
-  pub goes : m.Goes r old first
+  pub goes : Takes m found r old first
   pub second : m.State
   pub then : m.Goes s first second
   pub reordered : IsReordered m r s old new first second
@@ -81,11 +89,12 @@ pub record IsMachine (m : Machine) : Type 0 where
       → m.IsReady b r
       × ((c : m.State) → m.Goes r b c
       → (first : m.State) × (second : m.State) × m.Goes r a first × m.Goes s first second × m.Alike c second)
-  -- each of the sure turns can be taken, and is within the patterns
-  pub goes : (rs : Ranks) (r : ℕ) (a : m.State) → m.AreSure a rs → rs r ≡ true → (b : m.State) × m.Goes r a b
+  pub finds_goes : (r : ℕ) (a b : m.State) → m.Finds r a b → m.Goes r a b
+  -- each of the sure ranks can take a turn that finds what it asks for, and is within the patterns
+  pub goes : (rs : Ranks) (r : ℕ) (a : m.State) → m.AreSure a rs → rs r ≡ true → (b : m.State) × m.Finds r a b
   pub asks : (rs : Ranks) (r : ℕ) (a : m.State) → m.AreSure a rs → rs r ≡ true → m.IsWithin a r
   -- a turn of another rank is in vain, or the sure ones stay sure behind it and could have gone first
   pub first : (rs : Ranks) (s : ℕ) (a b : m.State) → rs s ≡ false → m.AreSure a rs → m.IsWithin a s → m.HasRoom a
       → m.Goes s a b
       → m.Alike a b
-      ⊎ (m.AreSure b rs × ((r : ℕ) (c : m.State) → rs r ≡ true → m.Goes r b c → IsExchanged m r s a c))
+      ⊎ (m.AreSure b rs × ((r : ℕ) (c : m.State) (found : Bool) → rs r ≡ true → Takes m found r b c → IsExchanged m found r s a c))
