@@ -1,4 +1,4 @@
--- Turns in vain: of a hart that waits and is told that nothing is there, and of one that is stopped.
+-- Turns that change nothing: a waiting hart is told that nothing is there, or the hart is stopped.
 use Rattle.std.specs.Prelude.{◌≡◌, ℕ, Bool, true, false, T}
 use Rattle.rv_hart.specs.State.{is_stopped}
 use Rattle.rv_hart.specs.declared.state.Mode.{Mode}

@@ -28,7 +28,7 @@ pub enum PlaceFault {
 }
 
 impl PlaceFault {
-    /// What is told of a replay that was refused; nothing where it was for memory.
+    /// Why a replay that was refused has no such place. None if it was refused memory.
     pub fn of(fault: ReplayFault) -> Option<PlaceFault>
         ensures { result ≡ place_of fault }
     {
