@@ -217,11 +217,6 @@ module _ (names : Renaming) where
 
   call_asked : (site : Site) (memory : Memory) (table : Table) (phases : List Phase) (c : Call)
       → asked_by site memory (table_by names table) phases c ≡ ask_by names (asked_by site memory table phases c)
-  call_asked site memory table phases (call.Exit value) = refl
-  call_asked site memory table phases (call.Put buffer count) = refl
-  call_asked site memory table phases (call.Rank comm) = refl
-  call_asked site memory table phases (call.Size comm) = refl
-  call_asked site memory table phases call.Hart = refl
   call_asked site memory table phases (call.Send s) = transfer_asked memory true (send_of site false s)
   call_asked site memory table phases (call.Ssend s) = transfer_asked memory true (send_of site true s)
   call_asked site memory table phases (call.Recv r status) = transfer_asked memory true (receive_of site r)
@@ -236,18 +231,13 @@ module _ (names : Renaming) where
   call_asked site memory table phases (call.Mprobe p) = either_asked (p.source == no_rank) _ refl
   call_asked site memory table phases (call.Imrecv m) = either_asked (m.message == no_message) _ refl
   call_asked site memory table phases (call.Mrecv m status) = either_asked (m.message == no_message) _ refl
-  call_asked site memory table phases (call.SendInit s) = refl
-  call_asked site memory table phases (call.RecvInit r) = refl
   call_asked site memory table phases (call.Start handle) =
       ap (asked_start memory) (request_named names table handle) ∙ start_asked memory (request_at table handle)
-  call_asked site memory table phases (call.RequestFree handle) = refl
   call_asked site memory table phases (call.Testall s) = several_asked memory table s
   call_asked site memory table phases (call.Waitall s) = several_asked memory table s
-  call_asked site memory table phases (call.PsendInit t) = refl
-  call_asked site memory table phases (call.PrecvInit t) = refl
   call_asked site memory table phases (call.Pready handle part) = ready_asked site memory table handle part
   call_asked site memory table phases (call.Parrived handle part) = arrived_asked phases table handle part
-  call_asked site memory table phases call.Unknown = refl
+  call_asked site memory table phases _ = refl
 
   poll_asked : (c : Call) (post : ℕ) → asked_poll c (number_by names post) ≡ ask_by names (asked_poll c post)
   poll_asked (call.Ssend s) post = refl

@@ -426,11 +426,6 @@ module _ (site : Site) (hart : ℕ) (memory : Memory) (table : Table) (phases : 
   call_fits : (c : Call) → Passed site memory table phases written (Go c)
       → RowFits site.version table phases (started_link table (Go c)) (asked_by site memory table phases c)
       (row_of site hart memory table phases c)
-  call_fits (call.Exit value) ok = refl
-  call_fits (call.Put buffer count) ok = refl
-  call_fits (call.Rank comm) ok = refl
-  call_fits (call.Size comm) ok = refl
-  call_fits call.Hart ok = refl
   call_fits (call.Send s) ok = begins_fits site.version table phases memory true purpose.Send (send_of site false s)
   call_fits (call.Ssend s) ok = begins_fits site.version table phases memory true purpose.Send (send_of site true s)
   call_fits (call.Recv r status) ok = recv_fits site.version table phases (r.source == no_rank) memory _ _ _ _ _ _
@@ -448,47 +443,21 @@ module _ (site : Site) (hart : ℕ) (memory : Memory) (table : Table) (phases : 
   call_fits (call.SendInit s) ok = (refl, null_or_send site.version table phases (s.dest == no_rank) _ refl)
   call_fits (call.RecvInit r) ok = (refl, null_or_receive site.version table phases (r.source == no_rank) _ refl)
   call_fits (call.Start handle) ok = starts_fits site.version table phases memory handle (request_at table handle)
-  call_fits (call.RequestFree handle) ok = refl
   call_fits (call.Testall s) ok = gathers_fits site.version table phases Immediate s _
   call_fits (call.Waitall s) ok = gathers_fits site.version table phases Blocking s _
   call_fits (call.PsendInit t) ok = (and_left _ _ ok.1.1.1.1.1.1.1.0, and_left _ _ ok.1.1.1.1.1.1.1.1.0)
   call_fits (call.PrecvInit t) ok = (and_left _ _ ok.1.1.1.1.1.1.1.0, and_left _ _ ok.1.1.1.1.1.1.1.1.0)
   call_fits (call.Pready handle part) ok = ready_fits handle part (sending_side (request_at table handle)) refl ok
   call_fits (call.Parrived handle part) ok = arrived_fits site.version table phases part (receiving_side (request_at table handle))
-  call_fits call.Unknown ok = refl
+  call_fits _ ok = refl
 
   polls_fits : (c : Call) (post : ℕ)
       → RowFits site.version table phases None (asked_poll c post) (OnReply Polling (polled c))
-  polls_fits (call.Exit value) post = tt
-  polls_fits (call.Put buffer count) post = tt
-  polls_fits (call.Rank comm) post = tt
-  polls_fits (call.Size comm) post = tt
-  polls_fits call.Hart post = tt
-  polls_fits (call.Send s) post = tt
   polls_fits (call.Ssend s) post = tt
   polls_fits (call.Recv r status) post = tt
-  polls_fits (call.Isend s) post = tt
-  polls_fits (call.Issend s) post = tt
-  polls_fits (call.Irecv r) post = tt
-  polls_fits (call.Test c) post = tt
-  polls_fits (call.Wait c) post = tt
-  polls_fits (call.Iprobe p) post = tt
-  polls_fits (call.Probe p) post = tt
-  polls_fits (call.Improbe p) post = tt
-  polls_fits (call.Mprobe p) post = tt
-  polls_fits (call.Imrecv m) post = tt
   polls_fits (call.Mrecv m status) post = tt
-  polls_fits (call.SendInit s) post = tt
   polls_fits (call.RecvInit r) post = tt
-  polls_fits (call.Start handle) post = tt
-  polls_fits (call.RequestFree handle) post = tt
-  polls_fits (call.Testall s) post = tt
-  polls_fits (call.Waitall s) post = tt
-  polls_fits (call.PsendInit t) post = tt
-  polls_fits (call.PrecvInit t) post = tt
-  polls_fits (call.Pready handle part) post = tt
-  polls_fits (call.Parrived handle part) post = tt
-  polls_fits call.Unknown post = tt
+  polls_fits _ post = tt
 
   pub row_fits : (d : Doing) → Passed site memory table phases written d
       → RowFits site.version table phases (started_link table d) (asked_in site memory table phases d)

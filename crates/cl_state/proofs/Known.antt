@@ -210,11 +210,6 @@ abbrev pub KnownCall : Site → Part → Call → Type 0
 KnownCall site part c = Known site part.memory part.phases (asked_by site part.memory part.requests part.phases c)
 
 known_call : (site : Site) (part : Part) (c : Call) → HasPassed site part (Go c) → KnownCall site part c
-known_call site part (call.Exit value) passed = tt
-known_call site part (call.Put buffer count) passed = tt
-known_call site part (call.Rank comm) passed = tt
-known_call site part (call.Size comm) passed = tt
-known_call site part call.Hart passed = tt
 known_call site part (call.Send s) passed = known_transfer site part.memory part.phases true (send_of site false s)
 known_call site part (call.Ssend s) passed = known_transfer site part.memory part.phases true (send_of site true s)
 known_call site part (call.Recv r status) passed = known_transfer site part.memory part.phases true (receive_of site r)
@@ -232,11 +227,8 @@ known_call site part (call.Mprobe p) passed = known_if site part.memory part.pha
 known_call site part (call.Imrecv m) passed = known_if site part.memory part.phases (m.message == no_message) _ tt
 known_call site part (call.Mrecv m status) passed =
     known_if site part.memory part.phases (m.message == no_message) _ tt
-known_call site part (call.SendInit s) passed = tt
-known_call site part (call.RecvInit r) passed = tt
 known_call site part (call.Start handle) passed =
     known_start site part.memory part.phases (request_at part.requests handle)
-known_call site part (call.RequestFree handle) passed = tt
 known_call site part (call.Testall s) passed =
     known_all site part.memory part.phases
     (posts_pending (pendings part.requests (handles_in part.memory (array_at s.array s.count))))
@@ -256,7 +248,7 @@ known_call site part (call.Pready handle ready) passed =
     passed.1.1.1.1.1.1.1.0 passed.1.1.1.1.1.1.1.1.1.1.1.0 passed.1.1.1.1.1.1.1.1.1.1.1.1.0
 known_call site part (call.Parrived handle asked) passed =
     known_arrived site part.memory part.phases asked (receiving_side (request_at part.requests handle))
-known_call site part call.Unknown passed = tt
+known_call site part _ passed = tt
 
 known_poll : (site : Site) (memory : Memory) (phases : List Phase) (c : Call) (post : ℕ)
     → Known site memory phases (asked_poll c post)

@@ -51,11 +51,6 @@ moves_probes site part m p value w r plain quiet =
     (ask.Hub r) (λ a. kept_nothing value p.status part) (moves_hub site part None m w r plain quiet)
 
 moves_call : (site : Site) (hart : ℕ) (part : Part) (c : Call) → HasPassed site part (Go c) → MovesCall site hart part c
-moves_call site hart part (call.Exit value) passed = λ a. refl
-moves_call site hart part (call.Put buffer count) passed = λ a. refl
-moves_call site hart part (call.Rank comm) passed = λ a. refl
-moves_call site hart part (call.Size comm) passed = λ a. refl
-moves_call site hart part call.Hart passed = λ a. refl
 moves_call site hart part (call.Send s) passed =
     moves_begins site part part.memory true purpose.Send (send_of site false s)
 moves_call site hart part (call.Ssend s) passed =
@@ -121,7 +116,7 @@ moves_call site hart part (call.Pready handle ready) passed =
     moves_ready site part ready (sending_side (request_at part.requests handle))
 moves_call site hart part (call.Parrived handle asked) passed =
     moves_arrived site part asked (receiving_side (request_at part.requests handle))
-moves_call site hart part call.Unknown passed = λ a. refl
+moves_call site hart part _ passed = λ a. refl
 
 moves_poll : (site : Site) (part : Part) (c : Call) (post : ℕ)
     → MovesSo site part None (OnReply Polling (polled c)) (asked_poll c post)

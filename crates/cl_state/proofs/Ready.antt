@@ -171,11 +171,7 @@ polls_row turn _ = tt
 pub row_of_ready : (turn : Turn) (d : Doing) → IsReady turn d → IsRow turn (row_for turn d)
 row_of_ready turn Step r = r.running
 row_of_ready turn (Refused c) r = tt
-row_of_ready turn (Go (call.Exit value)) r = tt
 row_of_ready turn (Go (call.Put buffer count)) r = (r.fresh, r.room)
-row_of_ready turn (Go (call.Rank comm)) r = tt
-row_of_ready turn (Go (call.Size comm)) r = tt
-row_of_ready turn (Go call.Hart) r = tt
 row_of_ready turn (Go (call.Send s)) r = begins_row turn purpose.Send (send_of turn.site.now false s) tt
 row_of_ready turn (Go (call.Ssend s)) r = begins_row turn purpose.Send (send_of turn.site.now true s) tt
 row_of_ready turn (Go (call.Recv v status)) r = either turn (v.source == no_rank) _ _ tt tt
@@ -205,6 +201,6 @@ row_of_ready turn (Go (call.Pready handle part)) r =
     ready_row turn part (sending_side (request_at turn.requests.now handle))
 row_of_ready turn (Go (call.Parrived handle part)) r =
     arrived_row turn part (receiving_side (request_at turn.requests.now handle))
-row_of_ready turn (Go call.Unknown) r = tt
+row_of_ready turn (Go _) r = tt
 row_of_ready turn (Poll c post) r = polls_row turn c
 row_of_ready turn Stopped r = tt

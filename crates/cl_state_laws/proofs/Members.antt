@@ -543,11 +543,6 @@ module _ (site : Site) where
 
   module _ (hart : ℕ) (memory : Memory) (table : Table) (phases : List Phase) (inside : AreInside site table) where
     call_fits : (c : Call) → is_comm site (needs_of c).comm ≡ true → RowFits (row_of site hart memory table phases c)
-    call_fits (call.Exit value) its = tt
-    call_fits (call.Put buffer count) its = tt
-    call_fits (call.Rank comm) its = tt
-    call_fits (call.Size comm) its = tt
-    call_fits call.Hart its = tt
     call_fits (call.Send s) its = begins_fits purpose.Send (send_of site false s) (sent false s its)
     call_fits (call.Ssend s) its = begins_fits purpose.Send (send_of site true s) (sent true s its)
     call_fits (call.Recv r status) its = if_fits (r.source == no_rank) _ _ tt tt
@@ -568,21 +563,13 @@ module _ (site : Site) where
     call_fits (call.SendInit s) its = sent false s its
     call_fits (call.RecvInit r) its = inside_receive (r.source == no_rank) r.buffer r.capacity _ _ r.comm
     call_fits (call.Start handle) its = starts_fits handle (request_at table handle) (λ r e. inside handle r e)
-    call_fits (call.RequestFree handle) its = tt
     call_fits (call.Testall s) its = gathers_fits Immediate s _
     call_fits (call.Waitall s) its = gathers_fits Blocking s _
-    call_fits (call.PsendInit t) its = tt
-    call_fits (call.PrecvInit t) its = tt
     call_fits (call.Pready handle part) its = ready_fits part (sending_side (request_at table handle))
     call_fits (call.Parrived handle part) its = arrived_fits phases part (receiving_side (request_at table handle))
-    call_fits call.Unknown its = tt
+    call_fits _ its = tt
 
     call_asks : (c : Call) → is_comm site (needs_of c).comm ≡ true → AsksInside (asked_by site memory table phases c)
-    call_asks (call.Exit value) its = tt
-    call_asks (call.Put buffer count) its = tt
-    call_asks (call.Rank comm) its = tt
-    call_asks (call.Size comm) its = tt
-    call_asks call.Hart its = tt
     call_asks (call.Send s) its = transfer_asks memory true (send_of site false s) (sent false s its)
     call_asks (call.Ssend s) its = transfer_asks memory true (send_of site true s) (sent true s its)
     call_asks (call.Recv r status) its =
@@ -601,17 +588,12 @@ module _ (site : Site) where
     call_asks (call.Mprobe p) its = if_asks (p.source == no_rank) _ _ tt tt
     call_asks (call.Imrecv m) its = if_asks (m.message == no_message) _ _ tt tt
     call_asks (call.Mrecv m status) its = if_asks (m.message == no_message) _ _ tt tt
-    call_asks (call.SendInit s) its = tt
-    call_asks (call.RecvInit r) its = tt
     call_asks (call.Start handle) its = start_asks memory (request_at table handle) (λ r e. inside handle r e)
-    call_asks (call.RequestFree handle) its = tt
     call_asks (call.Testall s) its = all_asks _
     call_asks (call.Waitall s) its = all_asks _
-    call_asks (call.PsendInit t) its = tt
-    call_asks (call.PrecvInit t) its = tt
     call_asks (call.Pready handle part) its = ready_asks memory part (sending_side (request_at table handle))
     call_asks (call.Parrived handle part) its = arrived_asks phases part (receiving_side (request_at table handle))
-    call_asks call.Unknown its = tt
+    call_asks _ its = tt
 
 -- the check of the communicator, of a call that goes on
 member_of : (site : Site) (part : Part) (c : Call) → HasPassed site part (Go c) → is_comm site (needs_of c).comm ≡ true

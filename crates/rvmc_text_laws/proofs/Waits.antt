@@ -118,35 +118,7 @@ module _ {wild : Wild} (names : Renaming) (h k : HubView) (alike : AlikeHubs wil
       go (call.Wait w) =
           ap (λ o. side_wait x.phases (sending_side o)) (request_named names x.requests w.handle)
           ∙ ap (side_wait x.phases) (side_by (request_at x.requests w.handle))
-      go (call.Exit code) = refl
-      go (call.Put buffer count) = refl
-      go (call.Rank comm) = refl
-      go (call.Size comm) = refl
-      go call.Hart = refl
-      go (call.Send s) = refl
-      go (call.Ssend s) = refl
-      go (call.Recv r status) = refl
-      go (call.Isend s) = refl
-      go (call.Issend s) = refl
-      go (call.Irecv r) = refl
-      go (call.Test t) = refl
-      go (call.Iprobe p) = refl
-      go (call.Probe p) = refl
-      go (call.Improbe p) = refl
-      go (call.Mprobe p) = refl
-      go (call.Imrecv m) = refl
-      go (call.Mrecv m status) = refl
-      go (call.SendInit s) = refl
-      go (call.RecvInit r) = refl
-      go (call.Start handle) = refl
-      go (call.RequestFree handle) = refl
-      go (call.Testall s) = refl
-      go (call.Waitall s) = refl
-      go (call.PsendInit t) = refl
-      go (call.PrecvInit t) = refl
-      go (call.Pready handle part) = refl
-      go (call.Parrived handle part) = refl
-      go call.Unknown = refl
+      go _ = refl
 
   call_same : (x y : Rank) → AlikeRanks names x y → (hart : ℕ)
       → call_named (get_or y.harts hart no_hart) ≡ call_named (get_or x.harts hart no_hart)
