@@ -10,8 +10,8 @@ use Rattle.std.proofs.lemmas.Option.{same_Some, slice_get_cases}
 use mathlib.Core.Logic.{inl, inr}
 use Rattle.rv_image_types.specs.declared.images.ImageParts.{ImageParts}
 use Rattle.cl_state.specs.Rank.{Rank, loaded}
-use Rattle.cl_rank.specs.Deeds.{Deed, RankMoves}
-use Rattle.cl_rank.specs.Alone.{IsAlone}
+use Rattle.cl_deeds.specs.Deeds.{Deed, RankMoves}
+use Rattle.cl_deeds.specs.Alone.{IsAlone}
 use Rattle.cl_machine.specs.Boxes.{Thing, box_number}
 use Rattle.cl_machine.specs.Cluster.{loaded_cluster}
 use Rattle.cl_machine.specs.Joined.{got_of, thing_of}

@@ -14,8 +14,8 @@ use Rattle.part_phase.proofs.Lowest.{none_pass}
 use Rattle.cl_state.specs.Rank.{Rank, loaded}
 use Rattle.cl_state_laws.specs.Registers.{HasRegisters}
 use Rattle.cl_state_laws.proofs.Registers.{registers}
-use Rattle.cl_rank.specs.Deeds.{Act, Deed, RankMoves, answer_of}
-use Rattle.cl_rank.specs.Alone.{IsAlone}
+use Rattle.cl_deeds.specs.Deeds.{Act, Deed, RankMoves, answer_of}
+use Rattle.cl_deeds.specs.Alone.{IsAlone}
 use Rattle.cl_machine.specs.Boxes.{box_number}
 use Rattle.cl_arrival_laws.specs.Arrival.{ReportsArrived, is_receiving, phases_begun}
 use Rattle.cl_arrival_laws.specs.Laws.{ArrivedLaw, IsTakenTimes}

@@ -35,7 +35,7 @@ use Rattle.cl_state.specs.Partitions.{awaited, awaited_at, awaited_by_receiver}
 use Rattle.cl_state.specs.Rank.{Rank}
 use Rattle.cl_state.specs.Table.{completing, row_awaited, row_completing}
 use Rattle.cl_state.specs.Told.{arrived, arrived_from, ended, not_yet, taken_one, told, told_in, told_row, with_taken_box}
-use Rattle.cl_rank.specs.Deeds.{Deed, RankMoves, answer_of}
+use Rattle.cl_deeds.specs.Deeds.{Deed, RankMoves, answer_of}
 use Rattle.cl_arrival_laws.specs.Arrival.{CompletesReceive}
 use Rattle.cl_arrival_laws.proofs.Reports.{by_reason}
 

@@ -7,8 +7,8 @@ use Rattle.std.proofs.lemmas.Bool.{eq-eqb}
 use Rattle.std.proofs.lemmas.Bool.Decides.{eqb_tells}
 use mathlib.Core.Logic.{inl, inr}
 use Rattle.cl_state.specs.Rank.{Rank}
-use Rattle.cl_rank.specs.Deeds.{Act, Deed, RankMoves}
-use Rattle.cl_rank.specs.Alone.{IsAlone}
+use Rattle.cl_deeds.specs.Deeds.{Act, Deed, RankMoves}
+use Rattle.cl_deeds.specs.Alone.{IsAlone}
 use Rattle.cl_machine.specs.Boxes.{box_number}
 use Rattle.cl_machine.specs.Joined.{got_of, made_of, thing_of}
 use Rattle.cl_machine.specs.Parts.{is_index}

@@ -6,7 +6,7 @@ use Rattle.std.specs.declared.option.Option.TheVariants.{None, Some}
 use Rattle.std.proofs.Common.{refl, sym, ap, ◌∙◌, subst, arith}
 use Rattle.std.proofs.lemmas.Option.{same_Some}
 use Rattle.rv_image_types.specs.declared.images.Link.{Link}
-use Rattle.cl_rank.specs.Deeds.{Deed}
+use Rattle.cl_deeds.specs.Deeds.{Deed}
 use Rattle.cl_machine.specs.Boxes.{Box, Thing, box_number}
 use Rattle.cl_machine.specs.Joined.{BoxJoined, BoxJoinedAt, Got, link_of_box, thing_of}
 use Rattle.cl_stamp_laws.proofs.Joinings.{joined}

@@ -30,7 +30,7 @@ use Rattle.cl_state.specs.Moves.{with_cut, with_receiving, with_sending}
 use Rattle.cl_state.specs.Rank.{Rank}
 use Rattle.cl_state.proofs.Known.{known as known_of}
 use Rattle.cl_state.proofs.Phases.{moved_by}
-use Rattle.cl_rank.specs.Deeds.{Act, Suits, Deed, RankMoves, answer_of}
+use Rattle.cl_deeds.specs.Deeds.{Act, Suits, Deed, RankMoves, answer_of}
 use Rattle.cl_box_laws.proofs.Sides.{changed_other, changed_same}
 
 -- a transfer gets the side, which none had

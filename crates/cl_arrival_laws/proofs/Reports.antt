@@ -32,7 +32,7 @@ use Rattle.cl_state.specs.Table.{row_arrived, row_of_part}
 use Rattle.cl_state.specs.Told.{ended, not_yet, returned, seen_one, told, told_in, told_row, with_taken_box}
 use Rattle.cl_state.proofs.Passed.{HasPassed, passed}
 use Rattle.cl_state_laws.specs.Registers.{HasRegisters}
-use Rattle.cl_rank.specs.Deeds.{Deed, RankMoves, answer_of}
+use Rattle.cl_deeds.specs.Deeds.{Deed, RankMoves, answer_of}
 use Rattle.cl_arrival_laws.specs.Arrival.{SeesArrived}
 
 -- what is awaited, with the reason

@@ -14,7 +14,7 @@ use Rattle.part_phase.specs.Phases.{begun, changed_at, is_unshaped_sending, on_r
 use Rattle.part_phase.specs.Phases.{sending_at, sending_in}
 use Rattle.part_phase.specs.Receiving.{cut_into, one_taken, shaped_receiving}
 use Rattle.part_phase.specs.Sending.{begun_sending, is_part_ready, one_freed, readied, shaped_sending, unshaped_sending}
-use Rattle.cl_rank.specs.Deeds.{Act}
+use Rattle.cl_deeds.specs.Deeds.{Act}
 use Rattle.cl_box_laws.proofs.Moves.{ActMoves, Begins, HubMoves, MayAskFreed, MayReady}
 use Rattle.cl_box_laws.proofs.Sides.{changed_other, changed_same, few_parts}
 use Rattle.std.specs.Prelude.{false}

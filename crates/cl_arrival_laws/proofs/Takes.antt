@@ -25,8 +25,8 @@ use Rattle.part_phase.proofs.Lowest.{none_pass}
 use Rattle.cl_state.specs.Asked.{asked}
 use Rattle.cl_state.specs.Moves.{AsksLook}
 use Rattle.cl_state.specs.Rank.{Rank, loaded}
-use Rattle.cl_rank.specs.Deeds.{Act, Suits, Deed, RankMoves}
-use Rattle.cl_rank.specs.Alone.{IsAlone}
+use Rattle.cl_deeds.specs.Deeds.{Act, Suits, Deed, RankMoves}
+use Rattle.cl_deeds.specs.Alone.{IsAlone}
 use Rattle.cl_machine.specs.Boxes.{box_number}
 use Rattle.cl_machine.specs.Parts.{is_index}
 use Rattle.cl_machine.specs.Product.{box_for}

@@ -53,7 +53,7 @@ use Rattle.cl_state.proofs.Moved.{by_awaited, by_taking, row_by, row_is}
 use Rattle.cl_state_laws.specs.Laws.{IsLook}
 use Rattle.cl_state_laws.proofs.Misses.{no_look, no_look_all, no_look_if, no_look_pending, no_look_poll, no_look_ready}
 use Rattle.cl_state_laws.proofs.Misses.{no_look_start}
-use Rattle.cl_rank.specs.Deeds.{Suits, answer_of}
+use Rattle.cl_deeds.specs.Deeds.{Suits, answer_of}
 use Rattle.cl_arrival_laws.specs.Laws.{WriteLaw}
 
 -- a question whether a thing is there, and not whether one was taken

@@ -7,8 +7,8 @@ use Rattle.rv_memory.specs.Memory.{bytes_of}
 use Rattle.mp_types.specs.declared.replies.Reply.TheVariants as reply
 use Rattle.mp_types.specs.declared.requests.Request.TheVariants as request
 use Rattle.cl_state.specs.Rank.{Rank, loaded}
-use Rattle.cl_rank.specs.Deeds.{Act, Deed, RankMoves}
-use Rattle.cl_rank.specs.Alone.{IsAlone}
+use Rattle.cl_deeds.specs.Deeds.{Act, Deed, RankMoves}
+use Rattle.cl_deeds.specs.Alone.{IsAlone}
 use Rattle.cl_arrival_laws.specs.Arrival.{CompletesReceive, SeesArrived, is_receiving, phases_begun}
 
 -- an image of two ranks with a link from rank 0 to rank 1, whose text is these words

@@ -20,8 +20,8 @@ use Rattle.cl_state.specs.Asked.{doing, part_of}
 use Rattle.cl_state.specs.Rank.{Rank, loaded}
 use Rattle.cl_state.specs.Told.{told, with_status}
 use Rattle.cl_state.specs.Written.{written}
-use Rattle.cl_rank.specs.Deeds.{Act, Deed, RankMoves, answer_of, event_of}
-use Rattle.cl_rank.specs.Alone.{IsAlone}
+use Rattle.cl_deeds.specs.Deeds.{Act, Deed, RankMoves, answer_of, event_of}
+use Rattle.cl_deeds.specs.Alone.{IsAlone}
 use Rattle.cl_machine.specs.Boxes.{Thing}
 use Rattle.cl_machine.specs.declared.steps.Step.{Step}
 use Rattle.cl_machine.specs.Cluster.{Cluster, loaded_cluster}

@@ -16,7 +16,7 @@ use Rattle.part_phase.specs.Phases.{begun, changed_at, is_unshaped_sending, on_r
 use Rattle.part_phase.specs.Phases.{receiving_at, sending_at, sending_in}
 use Rattle.part_phase.specs.Receiving.{cut_into, one_taken, shaped_receiving}
 use Rattle.part_phase.specs.Sending.{one_freed, readied, shaped_sending}
-use Rattle.cl_rank.specs.Deeds.{Act}
+use Rattle.cl_deeds.specs.Deeds.{Act}
 use Rattle.cl_machine.specs.Joined.{OnItsSide}
 use Rattle.cl_box_laws.specs.Gates.{Gate}
 use Rattle.cl_box_laws.proofs.Moves.{ActMoves, Begins, HubMoves, MayAskFreed, MayReady}

@@ -29,7 +29,7 @@ use Rattle.cl_state.specs.Moves.{with_cut, with_receiving, with_sending}
 use Rattle.cl_state.specs.Rank.{Rank}
 use Rattle.cl_state.proofs.Known.{known as known_of}
 use Rattle.cl_state.proofs.Phases.{moved_by}
-use Rattle.cl_rank.specs.Deeds.{Act, Suits, Deed, RankMoves, answer_of}
+use Rattle.cl_deeds.specs.Deeds.{Act, Suits, Deed, RankMoves, answer_of}
 
 -- a phase begins
 abbrev pub Begins : List Phase → List Phase → Type 0

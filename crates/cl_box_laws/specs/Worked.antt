@@ -1,6 +1,6 @@
 -- Worked rows: which deeds at one box keep the gate rule.
 use Rattle.std.specs.Prelude.{ℕ, [], ◌∷◌}
-use Rattle.cl_rank.specs.Deeds.{Act, Deed}
+use Rattle.cl_deeds.specs.Deeds.{Act, Deed}
 use Rattle.cl_box_laws.specs.Gates.{Gate, KeepsGate}
 
 -- partition 0 of link 0 is made ready

@@ -24,8 +24,8 @@ use Rattle.cl_state.proofs.Moves.{told_at}
 use Rattle.cl_state_laws.specs.Members.{AreInside}
 use Rattle.cl_state_laws.specs.Vain.{IsStopped, IsWaiting}
 use Rattle.cl_state_laws.proofs.Members.{members_law}
-use Rattle.cl_rank.specs.Alone.{IsAlone}
-use Rattle.cl_rank.specs.Deeds.{Deed, answer_of}
+use Rattle.cl_deeds.specs.Alone.{IsAlone}
+use Rattle.cl_deeds.specs.Deeds.{Deed, answer_of}
 use Rattle.cl_machine.specs.Boxes.{box_number}
 use Rattle.cl_machine.specs.Cluster.{Cluster}
 use Rattle.cl_deadlock_laws.specs.Stuck.{is_member}

@@ -12,8 +12,8 @@ use Rattle.cl_state.specs.declared.asking.Ask.{Ask}
 use Rattle.cl_state.specs.declared.asking.Ask.TheVariants as ask
 use Rattle.cl_state.specs.Asked.{asked}
 use Rattle.cl_state.specs.Rank.{Rank, loaded}
-use Rattle.cl_rank.specs.Deeds.{Act, Suits, Deed}
-use Rattle.cl_rank.specs.Alone.{IsAlone}
+use Rattle.cl_deeds.specs.Deeds.{Act, Suits, Deed}
+use Rattle.cl_deeds.specs.Alone.{IsAlone}
 use Rattle.cl_box_laws.specs.Gates.{MayAsk}
 use Rattle.cl_box_laws.proofs.Kept.{questions}
 use Rattle.cl_machine.specs.Boxes.{Box, Holds, IsEmpty, box_number}

@@ -19,8 +19,8 @@ use Rattle.cl_state_laws.specs.Members.{AreInside}
 use Rattle.cl_state_laws.proofs.Members.{members_law}
 use Rattle.cl_state.specs.Told.{told}
 use Rattle.cl_state.proofs.Moves.{told_at}
-use Rattle.cl_rank.specs.Deeds.{Act, Suits, Deed, answer_of}
-use Rattle.cl_rank.specs.Alone.{IsAlone}
+use Rattle.cl_deeds.specs.Deeds.{Act, Suits, Deed, answer_of}
+use Rattle.cl_deeds.specs.Alone.{IsAlone}
 use Rattle.cl_machine.specs.Cluster.{Cluster}
 use Rattle.cl_machine.specs.Journal.{Journal}
 use Rattle.cl_journal.specs.Journal.{calls_of}

@@ -18,7 +18,7 @@ use Rattle.cl_state_laws.specs.Laws.{IsLook}
 use Rattle.cl_state_laws.specs.Vain.{IsPatient, IsStopped, mode_of}
 use Rattle.cl_state_laws.specs.VainLaws.{at_clock}
 use Rattle.cl_state_laws.proofs.Vain.{vain_law}
-use Rattle.cl_rank.specs.Deeds.{Act, Suits, Deed, answer_of}
+use Rattle.cl_deeds.specs.Deeds.{Act, Suits, Deed, answer_of}
 use Rattle.cl_machine.specs.Boxes.{box_number}
 use Rattle.cl_machine.specs.Cluster.{Cluster}
 use Rattle.cl_machine.specs.Journal.{Journal, reply_in}

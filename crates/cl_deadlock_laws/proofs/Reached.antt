@@ -9,8 +9,8 @@ use Rattle.std.proofs.lemmas.Option.{same_Some}
 use Rattle.rv_hart.specs.State.{start_state}
 use Rattle.rv_image_types.specs.declared.images.ImageParts.{ImageParts}
 use Rattle.cl_journal.specs.declared.entries.Entry.{Entry}
-use Rattle.cl_rank.specs.Deeds.{Deed, RankMoves}
-use Rattle.cl_rank.specs.Alone.{IsAlone}
+use Rattle.cl_deeds.specs.Deeds.{Deed, RankMoves}
+use Rattle.cl_deeds.specs.Alone.{IsAlone}
 use Rattle.cl_state.specs.Rank.{Rank, below, loaded, start_harts}
 use Rattle.cl_state.proofs.Moves.{told_at}
 use Rattle.cl_machine.specs.declared.steps.Step.{Step}

@@ -16,7 +16,7 @@ use Rattle.cl_state.specs.Rank.{Rank}
 use Rattle.cl_state_laws.specs.Vain.{IsStopped, mode_of}
 use Rattle.cl_state_laws.specs.VainLaws.{at_clock}
 use Rattle.cl_state_laws.proofs.Vain.{vain_law}
-use Rattle.cl_rank.specs.Deeds.{Deed}
+use Rattle.cl_deeds.specs.Deeds.{Deed}
 use Rattle.cl_machine.specs.declared.steps.Step.{Step}
 use Rattle.cl_machine.specs.Boxes.{box_number}
 use Rattle.cl_machine.specs.Cluster.{Cluster, IsRun, IsStep}

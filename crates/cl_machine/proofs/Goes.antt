@@ -1,5 +1,5 @@
 -- The cluster runs where each of its parts alone runs.
-use Rattle.cl_rank.specs.Below.{Entry}
+use Rattle.cl_journal.specs.declared.entries.Entry.{Entry}
 use Rattle.std.specs.Prelude.{◌<◌, List, [], ◌∷◌, ◌≡◌, map}
 use Rattle.std.specs.List.{filter_map, cons_option, AllByRecursion}
 use Rattle.std.specs.declared.option.Option.{Option}
@@ -9,7 +9,7 @@ use mathlib.Core.Logic.{inl}
 use Rattle.cl_machine.proofs.Products.{parts_end, parts_step}
 use Rattle.cl_machine.proofs.Tables.{case_of_deed}
 use Rattle.cl_machine.specs.Journal.{Enters, Journal}
-use Rattle.cl_rank.specs.Deeds.{Deed, PartRun, RankMoves}
+use Rattle.cl_deeds.specs.Deeds.{Deed, PartRun, RankMoves}
 use Rattle.cl_machine.specs.Cluster.{Cluster, IsRun}
 use Rattle.cl_machine.specs.Order.{Before, InOrder}
 use Rattle.cl_machine.specs.PartRuns.{EachPartRuns}

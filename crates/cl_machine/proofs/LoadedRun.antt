@@ -3,7 +3,7 @@ use Rattle.std.specs.List.Sorted.{IsStrictlySortedBy}
 use Rattle.std.proofs.Common.{refl, arith}
 use Rattle.std.proofs.lemmas.List.Elements.{All-nil}
 use Rattle.rv_image_types.specs.Image.{IsImage}
-use Rattle.cl_rank.specs.Below.{decoded}
+use Rattle.rv_decode.specs.Decoded.{decoded}
 use Rattle.rv_hart.specs.Effect.{gives}
 use Rattle.rv_hart.specs.Results.{imm_result}
 use Rattle.rv_hart.specs.Stepped.{stepped}

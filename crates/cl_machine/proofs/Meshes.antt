@@ -8,7 +8,7 @@ use Rattle.std.proofs.lemmas.Bool.{eq-eqb}
 use Rattle.std.proofs.lemmas.Bool.Decides.{eqb_tells}
 use mathlib.Core.Logic.{inl, inr}
 use Rattle.cl_machine.proofs.Lists.{filter-keeps, filter-skips, All-filter}
-use Rattle.cl_rank.specs.Deeds.{Act, Deed, PartRun}
+use Rattle.cl_deeds.specs.Deeds.{Act, Deed, PartRun}
 use Rattle.cl_machine.specs.Boxes.{Box, Thing}
 use Rattle.cl_machine.specs.Joined.{Got, gate_stamp, got_for, got_of, made_for, made_of}
 use Rattle.cl_machine.specs.Order.{Before, InOrder, of_rank}

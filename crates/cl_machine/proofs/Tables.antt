@@ -8,7 +8,7 @@ use Rattle.cl_trace.specs.declared.events.Kind.{Kind}
 use Rattle.cl_state.specs.Rank.{Rank}
 use Rattle.cl_state.specs.Asked.{asked}
 use Rattle.cl_state.specs.Told.{told}
-use Rattle.cl_rank.specs.Deeds.{Act, Suits, IsStamp, RankMoves, answer_of, kind_of}
+use Rattle.cl_deeds.specs.Deeds.{Act, Suits, IsStamp, RankMoves, answer_of, kind_of}
 use Rattle.cl_machine.specs.declared.steps.Step.{Step}
 use Rattle.cl_machine.specs.Boxes.{Box, Thing, Holds, box_number, with_made, with_taken}
 use Rattle.cl_machine.specs.Cluster.{CaseOf, Cluster, IsRun, IsStep, ranks_told, with_box}

@@ -5,7 +5,7 @@ use Rattle.std.specs.declared.option.Option.TheVariants.{None, Some}
 use Rattle.std.proofs.Common.{refl, sym, ap, ◌∙◌, subst, arith}
 use mathlib.Core.Logic.{inl, inr}
 use Rattle.cl_machine.proofs.Meshes.{TakeOf, MeshFull, MeshAct, Meshed}
-use Rattle.cl_rank.specs.Deeds.{Act, Deed}
+use Rattle.cl_deeds.specs.Deeds.{Act, Deed}
 use Rattle.cl_machine.specs.Boxes.{Thing}
 use Rattle.cl_machine.specs.Joined.{Got, ShowsTake, got_for, got_of, made_for, made_more, made_of, takes_shown, shown_for}
 use Rattle.cl_machine.specs.Joined.{thing_of}

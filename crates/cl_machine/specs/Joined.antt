@@ -2,9 +2,9 @@
 use Rattle.std.specs.Prelude.{ℕ, suc, ◌+◌, ◌<◌, ◌/◌, List, [], ◌∷◌, ◌≡◌, ◌⊎◌, length, slice_get, Option, None, Some, ⊤}
 use Rattle.std.specs.List.{filter_map, cons_option, AllByRecursion}
 use Rattle.rv_image_types.specs.declared.images.Link.{Link}
-use Rattle.cl_rank.specs.Below.{Entry}
+use Rattle.cl_journal.specs.declared.entries.Entry.{Entry}
 use Rattle.cl_machine.specs.Journal.{Enters}
-use Rattle.cl_rank.specs.Deeds.{Act, Deed, RankMoves, PartRun}
+use Rattle.cl_deeds.specs.Deeds.{Act, Deed, RankMoves, PartRun}
 use Rattle.cl_machine.specs.Boxes.{Thing, Box, empty_box}
 use Rattle.cl_machine.specs.Cluster.{Cluster}
 use Rattle.cl_machine.specs.Order.{of_rank}

@@ -7,8 +7,8 @@ use Rattle.cl_machine.specs.Cluster.{Cluster, IsStep, IsRun, loaded_cluster}
 use Rattle.cl_machine.specs.ProductSteps.{PartsStep, step_of}
 use Rattle.rv_image_types.specs.declared.images.ImageParts.{ImageParts}
 use Rattle.rv_image_types.specs.Image.{IsImage}
-use Rattle.cl_rank.specs.Below.{Entry}
-use Rattle.cl_rank.specs.Deeds.{Deed}
+use Rattle.cl_journal.specs.declared.entries.Entry.{Entry}
+use Rattle.cl_deeds.specs.Deeds.{Deed}
 use Rattle.cl_machine.specs.Merge.{IsMerge}
 use Rattle.cl_machine.specs.Joined.{Joined}
 

@@ -1,7 +1,7 @@
 -- A machine of parts that stand beside one another: the events of one part, and where they lead it.
 use Rattle.std.specs.Prelude.{ℕ, List, [], ◌≡◌, Bool, false, eqb, Option, None, Some}
 use Rattle.std.specs.List.{filter}
-use Rattle.cl_rank.specs.Deeds.{PartRun}
+use Rattle.cl_deeds.specs.Deeds.{PartRun}
 
 -- whether this is part number i
 abbrev pub is_index : ℕ → Option ℕ → Bool

@@ -1,7 +1,7 @@
 -- What a deed moves beside its rank: the hub, by an entry of its journal, or a box.
 use Rattle.std.specs.Prelude.{ℕ, Option, None, Some}
-use Rattle.cl_rank.specs.Below.{Entry}
-use Rattle.cl_rank.specs.Deeds.{Act, Deed}
+use Rattle.cl_journal.specs.declared.entries.Entry.{Entry}
+use Rattle.cl_deeds.specs.Deeds.{Act, Deed}
 use Rattle.cl_machine.specs.Boxes.{box_number}
 
 -- the journal's entry of a hub call

@@ -1,8 +1,8 @@
 -- One step of the product of parts, by the deed that makes it.
 use Rattle.std.specs.Prelude.{ℕ, ◌≡◌, Option, None, Some}
-use Rattle.cl_rank.specs.Below.{Entry}
+use Rattle.cl_journal.specs.declared.entries.Entry.{Entry}
 use Rattle.cl_machine.specs.Journal.{Journal, Enters}
-use Rattle.cl_rank.specs.Deeds.{Act, Deed, kind_of, RankMoves}
+use Rattle.cl_deeds.specs.Deeds.{Act, Deed, kind_of, RankMoves}
 use Rattle.cl_machine.specs.declared.steps.Step.{Step}
 use Rattle.cl_machine.specs.Boxes.{Box, IsEmpty, Holds, with_made, with_taken}
 use Rattle.cl_machine.specs.Cluster.{Cluster}

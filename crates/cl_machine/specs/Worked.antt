@@ -1,7 +1,7 @@
 -- Worked rows: runs of two ranks over one box, and steps that are none.
 use Rattle.std.specs.Prelude.{ℕ, zero, suc, ◌<◌, List, [], ◌∷◌, ◌++◌, ◌≡◌, length, map, replicate, true, false}
 use Rattle.std.specs.Prelude.{Some, None}
-use Rattle.cl_rank.specs.Below.{bytes_at}
+use Rattle.rv_memory.specs.Memory.{bytes_at}
 use Rattle.rv_image_types.specs.declared.images.Link.{Link}
 use Rattle.mp_types.specs.declared.messages.Message.{Message}
 use Rattle.mp_types.specs.declared.replies.Reply.{Reply}
@@ -17,13 +17,13 @@ use Rattle.mp_request.specs.Table.{Table}
 use Rattle.part_phase.specs.declared.phases.Phase.TheVariants.{Sending, Receiving}
 use Rattle.part_phase.specs.Receiving.{begun_receiving, cut_into, shaped_receiving, unshaped_receiving}
 use Rattle.part_phase.specs.Sending.{begun_sending, shaped_sending, unshaped_sending}
-use Rattle.cl_rank.specs.Below.{Site}
-use Rattle.cl_rank.specs.Below.{Entry}
+use Rattle.cl_calls.specs.declared.sites.Site.{Site}
+use Rattle.cl_journal.specs.declared.entries.Entry.{Entry}
 use Rattle.cl_machine.specs.Journal.{Journal, empty_journal, reply_in, with_entry}
 use Rattle.cl_state.specs.declared.asking.Answer.{Answer}
 use Rattle.cl_state.specs.declared.asking.Ask.{Ask}
 use Rattle.cl_trace.specs.declared.events.Kind.{Kind}
-use Rattle.cl_rank.specs.Deeds.{Act, Deed}
+use Rattle.cl_deeds.specs.Deeds.{Act, Deed}
 use Rattle.cl_state.specs.Rank.{Rank}
 use Rattle.cl_state.specs.Asked.{asked}
 use Rattle.cl_state.specs.Told.{told}

@@ -15,7 +15,7 @@ use Rattle.cl_trace.specs.declared.events.Kind.TheVariants as kind
 use Rattle.cl_state.specs.Rank.{Rank}
 use Rattle.cl_rank.specs.declared.ranks.Rank.{Rank as Running}
 use Rattle.cl_rank.specs.declared.turning.Turn.{Turn}
-use Rattle.cl_rank.specs.Deeds.{Act, Suits, IsStamp, answer_of, kind_of, request_of}
+use Rattle.cl_deeds.specs.Deeds.{Act, Suits, IsStamp, answer_of, kind_of, request_of}
 use Rattle.cl_rank.specs.Sides.{box_id_of}
 use Rattle.cl_sides.specs.Sides.{AreChannelsOf, sides_in}
 use Rattle.cl_sides.specs.Steps.{IsTested}

@@ -24,7 +24,7 @@ use Rattle.cl_state.specs.declared.row.Visit.TheVariants.{Readies}
 use Rattle.cl_state.specs.Asked.{Part, asked, part_of}
 use Rattle.cl_state.specs.Rank.{Rank}
 use Rattle.cl_state.specs.Told.{told, told_row}
-use Rattle.cl_rank.specs.Deeds.{Act}
+use Rattle.cl_deeds.specs.Deeds.{Act}
 use Rattle.cl_rank.specs.Fitting.{RequestsFit}
 use Rattle.cl_rank.specs.Sides.{ReceiverActs, SenderActs, is_place}
 use Rattle.cl_sides.specs.Sides.{AreChannelsOf, AreSides, HasSender, PhaseFits}

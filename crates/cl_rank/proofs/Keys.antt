@@ -7,7 +7,7 @@ use Rattle.part_box.specs.Keys.{Receiver, Sender}
 use Rattle.part_channel.specs.Receiving.{RecvView}
 use Rattle.part_channel.specs.Sending.{SendView, modified}
 use Rattle.rv_image_types.specs.declared.images.ImageVersion.{ImageVersion}
-use Rattle.cl_rank.specs.Deeds.{Act}
+use Rattle.cl_deeds.specs.Deeds.{Act}
 use Rattle.cl_rank.specs.Sides.{ReceiverActs, SenderActs, is_place, box_id_of}
 use Rattle.cl_sides.specs.Sides.{Sides}
 use Rattle.cl_rank.specs.RankSides.{HasKey, KeyMoves, KeysMove}

@@ -1,4 +1,3 @@
-pub mod Alone
 pub mod Anew
 pub mod Answered
 pub mod Asks

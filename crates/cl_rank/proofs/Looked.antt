@@ -24,7 +24,7 @@ use Rattle.cl_state.specs.declared.row.Visit.TheVariants.{Readies, Frees, Takes,
 use Rattle.cl_state.specs.Asked.{asked, part_of}
 use Rattle.cl_state.specs.Rank.{Rank}
 use Rattle.cl_state.specs.Told.{told}
-use Rattle.cl_rank.specs.Deeds.{Act}
+use Rattle.cl_deeds.specs.Deeds.{Act}
 use Rattle.cl_rank.specs.Fitting.{RequestsFit}
 use Rattle.cl_rank.specs.Sides.{ReceiverActs, SenderActs, is_place, box_id_of}
 use Rattle.cl_sides.specs.Sides.{AreChannelsOf, AreSides}

@@ -24,7 +24,7 @@ use Rattle.cl_state.specs.Asked.{asked, doing, part_of}
 use Rattle.cl_state.specs.Rank.{Rank}
 use Rattle.cl_state.specs.Table.{row_in}
 use Rattle.cl_state.specs.Told.{told, told_row}
-use Rattle.cl_rank.specs.Deeds.{Act, Suits, request_of}
+use Rattle.cl_deeds.specs.Deeds.{Act, Suits, request_of}
 use Rattle.cl_rank.specs.Fitting.{RequestsFit}
 use Rattle.cl_rank.specs.Follows.{started_link}
 use Rattle.cl_sides.specs.Sides.{AreChannelsOf, AreSides, PhaseFits, Sides, phase_of_receiver}

@@ -11,7 +11,7 @@ use Rattle.cl_state.specs.Rank.{Rank}
 use Rattle.cl_state.specs.Room.{rank_of}
 use Rattle.cl_state.specs.Told.{told}
 use Rattle.cl_rank.specs.declared.ranks.Rank.{Rank as Running}
-use Rattle.cl_rank.specs.Deeds.{Act}
+use Rattle.cl_deeds.specs.Deeds.{Act}
 use Rattle.cl_rank.specs.Fitting.{RequestsFit}
 use Rattle.cl_sides.specs.Sides.{AreSides, sides_in}
 use Rattle.cl_sides.specs.Steps.{begun_at, begun_receiver, begun_sender}

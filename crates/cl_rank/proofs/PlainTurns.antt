@@ -17,7 +17,7 @@ use Rattle.cl_state.specs.Rank.{Rank}
 use Rattle.cl_state.specs.Room.{rank_of}
 use Rattle.cl_state.proofs.Moves.{told_at}
 use Rattle.cl_rank.specs.declared.ranks.Rank.{Rank as Running}
-use Rattle.cl_rank.specs.Deeds.{event_of}
+use Rattle.cl_deeds.specs.Deeds.{event_of}
 use Rattle.cl_rank.specs.Fitting.{RequestsFit}
 use Rattle.cl_rank.specs.Plains.{IsPlainStep, IsPlainTurn, Repeats, plain_deed}
 use Rattle.cl_sides.specs.Sides.{AreChannelsOf, AreSides, sides_in}

@@ -48,7 +48,7 @@ use Rattle.cl_state.specs.TurnRoom.{HasRoom}
 use Rattle.cl_state.specs.Writes.{IsEnough, bytes_from, message_into, writes_by, writes_in}
 use Rattle.cl_state.specs.Written.{written}
 use Rattle.cl_state.proofs.Pages.{enough_head, enough_missing, none_enough, one_enough}
-use Rattle.cl_rank.specs.Deeds.{Act}
+use Rattle.cl_deeds.specs.Deeds.{Act}
 use Rattle.cl_rank.specs.Fitting.{RequestsFit}
 use Rattle.cl_sides.specs.Sides.{AreSides, sides_in}
 use Rattle.cl_rank.specs.declared.ranks.Rank.{Rank as Running}

@@ -42,7 +42,7 @@ use Rattle.cl_state.specs.Told.{ended, told, told_in, told_row, with_part}
 use Rattle.cl_state.specs.Transfers.{asked_transfer}
 use Rattle.cl_state.specs.TurnRoom.{HasRoom}
 use Rattle.cl_state.specs.Writes.{IsEnough, writes_by, writes_in}
-use Rattle.cl_rank.specs.Deeds.{Act}
+use Rattle.cl_deeds.specs.Deeds.{Act}
 use Rattle.cl_rank.specs.Fitting.{RequestsFit}
 use Rattle.cl_sides.specs.Sides.{AreSides, sides_in}
 use Rattle.cl_rank.specs.declared.ranks.Rank.{Rank as Running}

@@ -33,7 +33,7 @@ use Rattle.cl_state.specs.Told.{told, told_row}
 use Rattle.cl_rank.specs.declared.ranks.Rank.{Rank as Running}
 use Rattle.cl_trace.specs.declared.events.Event.{Event}
 use Rattle.cl_trace.specs.declared.events.Kind.TheVariants as kind
-use Rattle.cl_rank.specs.Deeds.{Act}
+use Rattle.cl_deeds.specs.Deeds.{Act}
 use Rattle.cl_rank.specs.Fitting.{RequestsFit}
 use Rattle.cl_rank.specs.Follows.{named_link}
 use Rattle.cl_sides.specs.Sides.{AreSides, PhaseFits, phase_of_receiver, phase_of_sender, side_of, sides_in}

@@ -9,7 +9,7 @@ use Rattle.cl_rank.specs.declared.ranks.Rank.{Rank as Running}
 use Rattle.cl_rank.specs.declared.stops.Stop.{Stop}
 use Rattle.cl_rank.specs.declared.stops.Stop.TheVariants as stop
 use mathlib.Core.Logic.{inl, inr}
-use Rattle.cl_rank.specs.Deeds.{Act, RankMoves, event_of, request_of}
+use Rattle.cl_deeds.specs.Deeds.{Act, RankMoves, event_of, request_of}
 use Rattle.cl_sides.specs.Sides.{AreChannelsOf}
 use Rattle.cl_rank.specs.RankSides.{KeysMove}
 use Rattle.cl_rank.specs.Turning.{DeskRule, IsTurn, RankView, StopHolds, TellsAct}

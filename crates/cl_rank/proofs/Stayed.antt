@@ -9,7 +9,7 @@ use Rattle.cl_state.specs.Asked.{asked}
 use Rattle.cl_state.specs.Room.{rank_of}
 use Rattle.cl_state.specs.TurnRoom.{HasRoom}
 use Rattle.cl_state.specs.Rank.{Rank}
-use Rattle.cl_rank.specs.Deeds.{Act}
+use Rattle.cl_deeds.specs.Deeds.{Act}
 use Rattle.cl_rank.specs.Fitting.{RequestsFit}
 use Rattle.cl_sides.specs.Sides.{AreSides, sides_in}
 use Rattle.cl_rank.specs.declared.ranks.Rank.{Rank as Running}

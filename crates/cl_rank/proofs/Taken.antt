@@ -39,7 +39,7 @@ use Rattle.cl_state.specs.Told.{told}
 use Rattle.cl_trace.specs.declared.events.Kind.TheVariants as kind
 use Rattle.cl_rank.specs.declared.ranks.Rank.{Rank as Running}
 use Rattle.cl_rank.specs.declared.turning.Turn.{Turn}
-use Rattle.cl_rank.specs.Deeds.{Act}
+use Rattle.cl_deeds.specs.Deeds.{Act}
 use Rattle.cl_rank.specs.Fitting.{RequestsFit}
 use Rattle.cl_rank.specs.Sides.{ReceiverActs, SenderActs, is_place, box_id_of}
 use Rattle.cl_sides.specs.Sides.{AreChannelsOf, AreSides, HasReceiver, PhaseFits}

@@ -20,7 +20,7 @@ use Rattle.cl_state.specs.Room.{rank_of}
 use Rattle.cl_state.specs.Told.{told}
 use Rattle.cl_rank.specs.declared.ranks.Rank.{Rank as Running}
 use Rattle.cl_rank.specs.declared.turning.Turn.{Turn}
-use Rattle.cl_rank.specs.Deeds.{Act, Suits, Deed, IsStamp, answer_of, kind_of, request_of}
+use Rattle.cl_deeds.specs.Deeds.{Act, Suits, Deed, IsStamp, answer_of, kind_of, request_of}
 use Rattle.cl_rank.specs.Follows.{started_link}
 use Rattle.cl_rank.specs.Sides.{box_id_of}
 use Rattle.cl_rank.specs.Fitting.{RequestsFit}
@@ -28,7 +28,7 @@ use Rattle.cl_sides.specs.Sides.{AreChannelsOf, AreSides, Sides, sides_in}
 use Rattle.cl_rank.specs.Roomy.{IsRoomy}
 use Rattle.cl_sides.specs.Steps.{IsReadied, MayReady, begun_at, begun_receiver, begun_sender}
 use Rattle.cl_rank.specs.Views.{AsksNobody, MayTurn, TurnLeaves, place_in}
-use Rattle.cl_rank.proofs.Alone.{stamp_above}
+use Rattle.cl_deeds.proofs.Alone.{stamp_above}
 use Rattle.cl_rank.proofs.Boxes.{long_enough, may_ready, ready_moved}
 use Rattle.cl_rank.proofs.Keys.{somewhere}
 use Rattle.cl_rank.proofs.Moves.{Moved, alone_moved, started_at}

@@ -1,5 +1,3 @@
-pub mod Deeds
-pub mod Alone
 pub mod Sides
 pub mod RankSides
 pub mod Facts
@@ -7,7 +5,6 @@ pub mod Roomy
 pub mod Tidings
 pub mod Fitting
 pub mod Follows
-pub mod Laws
 pub mod Turns
 pub mod Memory
 pub mod Turning
@@ -15,4 +12,3 @@ pub mod Plains
 pub mod Views
 pub mod QuickReceives
 pub mod QuickSends
-pub mod Below

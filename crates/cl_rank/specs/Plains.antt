@@ -10,7 +10,7 @@ use Rattle.cl_state.specs.declared.asking.Ask.TheVariants as ask
 use Rattle.cl_state.specs.Asked.{asked, is_ecall}
 use Rattle.cl_state.specs.Rank.{Rank}
 use Rattle.cl_state.specs.Told.{told}
-use Rattle.cl_rank.specs.Deeds.{Act, Deed, RankMoves, event_of}
+use Rattle.cl_deeds.specs.Deeds.{Act, Deed, RankMoves, event_of}
 use Rattle.cl_rank.specs.Turning.{RankView}
 use Rattle.cl_rank.specs.Turns.{AllStopped}
 

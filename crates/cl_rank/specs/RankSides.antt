@@ -6,7 +6,7 @@ use Rattle.part_box.specs.declared.view.Receiving.{Receiving}
 pub use Rattle.cl_sides.specs.Sides.{AreChannelsOf, AreNewSides, AreSides, HasReceiver, HasSender, PhaseFits, Sides}
 pub use Rattle.cl_sides.specs.Sides.{phase_of_receiver, phase_of_sender, side_of, sides_in}
 pub use Rattle.cl_sides.specs.Sides.{receiver_key, receiver_of, receiver_view, sender_key, sender_of, sender_view}
-use Rattle.cl_rank.specs.Deeds.{Act}
+use Rattle.cl_deeds.specs.Deeds.{Act}
 use Rattle.cl_rank.specs.Sides.{box_id_of, is_place, SenderActs, ReceiverActs}
 
 -- where the act is on this box its key goes by the act, and else it stays

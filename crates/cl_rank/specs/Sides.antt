@@ -7,7 +7,7 @@ use Rattle.part_box.specs.Gate.{ready_stamp, taken_stamp}
 use Rattle.part_box.specs.Steps.{with_made, with_freed, with_look, with_got}
 use Rattle.part_channel.specs.Words.{bytes_of_words}
 use Rattle.part_phase.specs.Limits.{box_bytes, box_words}
-use Rattle.cl_rank.specs.Deeds.{Act}
+use Rattle.cl_deeds.specs.Deeds.{Act}
 
 -- ---- keys and deeds
 

@@ -10,7 +10,7 @@ use Rattle.cl_trace.specs.declared.events.Event.{Event}
 use Rattle.cl_state.specs.declared.asking.Ask.{Ask}
 use Rattle.cl_state.specs.Rank.{Rank}
 use Rattle.cl_state.specs.Asked.{asked}
-use Rattle.cl_rank.specs.Deeds.{Act, Deed, event_of, RankMoves}
+use Rattle.cl_deeds.specs.Deeds.{Act, Deed, event_of, RankMoves}
 use Rattle.cl_sides.specs.Sides.{Sides}
 use Rattle.cl_rank.specs.RankSides.{KeysMove}
 use Rattle.cl_rank.specs.Sides.{box_id_of}

@@ -20,7 +20,7 @@ use Rattle.cl_rank.specs.declared.ranks.Rank.{Rank}
 use Rattle.cl_sides.specs.declared.steps.BoxId.{BoxId}
 use Rattle.cl_rank.specs.declared.stops.Stop.{Stop}
 use Rattle.cl_rank.specs.declared.turning.Turn.{Turn}
-use Rattle.cl_rank.specs.Deeds.{Act, Deed, event_of, RankMoves, Suits, answer_of, kind_of, request_of}
+use Rattle.cl_deeds.specs.Deeds.{Act, Deed, event_of, RankMoves, Suits, answer_of, kind_of, request_of}
 use Rattle.cl_rank.specs.Sides.{box_id_of}
 use Rattle.cl_sides.specs.Sides.{AreChannelsOf, sides_in}
 use Rattle.cl_rank.specs.RankSides.{KeysMove}

@@ -6,7 +6,6 @@
 
 mod agreeing;
 mod desks;
-pub mod laws;
 mod plains;
 mod quick_receives;
 mod quick_sends;

@@ -3,7 +3,7 @@ use Rattle.std.specs.Prelude.{ℕ, zero, suc, ◌≡◌, ◌<◌, ◌≤◌, ◌
 use Rattle.std.proofs.Common.{refl, sym, ap, ◌∙◌, subst, arith}
 use Rattle.std.proofs.lemmas.List.{length-append}
 use Rattle.cl_trace.specs.declared.events.Event.{Event}
-use Rattle.cl_rank.specs.Deeds.{Act, event_of}
+use Rattle.cl_deeds.specs.Deeds.{Act, event_of}
 use Rattle.cl_rank.specs.Plains.{IsPlainTurn, Repeats, plain_deed}
 use Rattle.cl_rank.specs.RankSides.{Sides, receiver_of, sender_of}
 use Rattle.cl_rank.specs.Turning.{DeskRule, RankView}

@@ -9,7 +9,7 @@ use Rattle.cl_state.specs.declared.asking.Ask.{Ask}
 use Rattle.cl_state.specs.Asked.{asked}
 use Rattle.cl_state.specs.Rank.{Rank, loaded}
 use Rattle.cl_state.specs.Room.{rank_of}
-use Rattle.cl_rank.specs.Deeds.{Deed, RankMoves, event_of}
+use Rattle.cl_deeds.specs.Deeds.{Deed, RankMoves, event_of}
 use Rattle.cl_rank.specs.RankSides.{KeysMove, Sides}
 use Rattle.cl_rank.specs.Sides.{box_id_of}
 use Rattle.cl_rank.specs.Memory.{TurnTakesMemory}

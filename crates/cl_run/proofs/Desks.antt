@@ -6,7 +6,7 @@ use Rattle.mp_types.specs.declared.replies.Reply.{Reply}
 use Rattle.cl_journal.specs.declared.journal.HubFault.{HubFault}
 use Rattle.cl_journal.specs.Replaying.{HubHistory}
 use Rattle.cl_state.specs.Rank.{Rank}
-use Rattle.cl_rank.specs.Deeds.{Act}
+use Rattle.cl_deeds.specs.Deeds.{Act}
 use Rattle.cl_rank.specs.Turning.{Answered, DeskRule, StopHolds, TellsAct}
 use Rattle.cl_rank.specs.declared.stops.Stop.{Stop}
 use Rattle.cl_record.specs.Seats.{GoesOn, Station}

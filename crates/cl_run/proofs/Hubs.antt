@@ -14,7 +14,7 @@ use Rattle.cl_journal.specs.Journal.{entries_by, is_by, stamp_after}
 use Rattle.cl_journal.specs.Replaying.{HubHistory, clock_of}
 use Rattle.cl_journal.specs.declared.entries.Entry.{Entry}
 use Rattle.cl_journal.proofs.History.{stamp_after-snoc}
-use Rattle.cl_rank.specs.Deeds.{Act, Deed, event_of, kind_of, request_of}
+use Rattle.cl_deeds.specs.Deeds.{Act, Deed, event_of, kind_of, request_of}
 use Rattle.cl_rank.specs.Turning.{Answered, Tells, TellsAct}
 use Rattle.cl_machine.specs.Journal.{Enters, reply_in}
 use Rattle.cl_machine.specs.Product.{entry_of}

@@ -11,7 +11,7 @@ use Rattle.cl_calls.specs.declared.sites.Site.{Site}
 use Rattle.cl_journal.specs.Replaying.{HubHistory}
 use Rattle.cl_state.proofs.Moves.{told_at}
 use Rattle.cl_state.specs.Rank.{Rank}
-use Rattle.cl_rank.specs.Deeds.{Act, answer_of}
+use Rattle.cl_deeds.specs.Deeds.{Act, answer_of}
 use Rattle.cl_rank.specs.Turning.{Answered}
 use Rattle.cl_rank.specs.Sides.{box_id_of}
 use Rattle.cl_rank.specs.RankSides.{AreChannelsOf, HasKey, KeyMoves, KeysMove, Sides, receiver_of, sender_of}

@@ -15,7 +15,7 @@ use Rattle.rv_image_types.specs.Image.{IsLink}
 use Rattle.part_channel.specs.Channels.{ChannelView}
 use Rattle.cl_journal.specs.Replaying.{HubHistory}
 use Rattle.cl_trace.specs.declared.events.Event.{Event}
-use Rattle.cl_rank.specs.Deeds.{event_of}
+use Rattle.cl_deeds.specs.Deeds.{event_of}
 use Rattle.cl_rank.specs.RankSides.{AreChannelsOf}
 use Rattle.cl_rank.specs.Turning.{Answered}
 use Rattle.cl_rank.specs.declared.stops.Stop.{Stop}

@@ -17,8 +17,8 @@ use Rattle.cl_journal.specs.declared.journal.HubFault.TheVariants as fault
 use Rattle.cl_trace.specs.declared.events.Event.{Event}
 use Rattle.cl_state.specs.Rank.{Rank}
 use Rattle.cl_state.proofs.Moves.{told_at}
-use Rattle.cl_rank.proofs.Alone.{clock_moved}
-use Rattle.cl_rank.specs.Deeds.{Deed, answer_of, event_of, kind_of, Act, request_of}
+use Rattle.cl_deeds.proofs.Alone.{clock_moved}
+use Rattle.cl_deeds.specs.Deeds.{Deed, answer_of, event_of, kind_of, Act, request_of}
 use Rattle.cl_state.specs.Asked.{asked}
 use Rattle.cl_rank.specs.Turns.{IsActive}
 use Rattle.cl_rank.specs.Turning.{Answered, IsCause, Refuses, StopHolds, stop_of}

@@ -13,7 +13,7 @@ use Rattle.cl_rank.specs.Turns.{AllStopped}
 use Rattle.cl_calls.specs.declared.sites.Site.{Site}
 use Rattle.cl_state.specs.Rank.{Rank, site_of}
 use Rattle.cl_state.proofs.Moves.{told_at}
-use Rattle.cl_rank.specs.Deeds.{answer_of}
+use Rattle.cl_deeds.specs.Deeds.{answer_of}
 use Rattle.cl_rank.specs.Turning.{Answered}
 use Rattle.cl_rank.specs.Sides.{box_id_of}
 use Rattle.cl_rank.specs.RankSides.{KeysMove}

@@ -7,7 +7,7 @@ use Rattle.std.proofs.Common.{refl, sym, ap, ◌∙◌, subst}
 use Rattle.std.proofs.lemmas.Bool.Decides.{eqb_tells}
 use mathlib.Core.Logic.{inl, inr}
 use Rattle.cl_journal.specs.declared.entries.Entry.{Entry}
-use Rattle.cl_rank.specs.Deeds.{Deed, PartRun, RankMoves}
+use Rattle.cl_deeds.specs.Deeds.{Deed, PartRun, RankMoves}
 use Rattle.cl_machine.specs.declared.steps.Step.{Step}
 use Rattle.cl_machine.specs.Cluster.{Cluster, IsRun}
 use Rattle.cl_machine.specs.Journal.{Enters, Journal}

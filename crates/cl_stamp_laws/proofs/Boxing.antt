@@ -6,7 +6,7 @@ use Rattle.std.proofs.Common.{refl, sym, ap, ◌∙◌, subst, arith, append_ass
 use Rattle.std.proofs.lemmas.List.{append-nil, length-append}
 use Rattle.std.proofs.lemmas.Option.{same_Some, slice_get_past}
 use mathlib.Core.Logic.{inl, inr}
-use Rattle.cl_rank.specs.Deeds.{Act, Deed, PartRun}
+use Rattle.cl_deeds.specs.Deeds.{Act, Deed, PartRun}
 use Rattle.cl_machine.specs.Boxes.{Box, Thing}
 use Rattle.cl_machine.specs.Joined.{Got, ShowsTake, gate_stamp, got_of, made_of, takes_shown, thing_of}
 use Rattle.cl_machine.specs.ProductSteps.{BoxMoves}

@@ -15,7 +15,7 @@ use Rattle.rv_image_types.specs.declared.images.Link.{Link}
 use Rattle.rv_image_types.specs.Image.{IsLink}
 use Rattle.cl_journal.specs.declared.entries.Entry.{Entry}
 use Rattle.cl_state.specs.Rank.{loaded}
-use Rattle.cl_rank.specs.Deeds.{Act, Deed, PartRun}
+use Rattle.cl_deeds.specs.Deeds.{Act, Deed, PartRun}
 use Rattle.cl_machine.specs.declared.steps.Step.{Step}
 use Rattle.cl_machine.specs.Boxes.{Box, box_number, empty_box}
 use Rattle.cl_machine.specs.Cluster.{loaded_cluster}

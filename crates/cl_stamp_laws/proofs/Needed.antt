@@ -3,7 +3,7 @@ use Rattle.std.specs.Prelude.{ℕ, [], ◌∷◌, ◌≡◌, Bool, true, false, 
 use Rattle.std.proofs.Common.{refl, ap, arith}
 use Rattle.std.proofs.lemmas.Bool.{eqb-true}
 use mathlib.Core.Logic.{inl}
-use Rattle.cl_rank.specs.Deeds.{Act, Deed}
+use Rattle.cl_deeds.specs.Deeds.{Act, Deed}
 use Rattle.cl_machine.specs.Boxes.{Box}
 use Rattle.cl_machine.specs.Order.{of_rank}
 use Rattle.cl_stamp_laws.specs.Laws.{GateNeededLaw}

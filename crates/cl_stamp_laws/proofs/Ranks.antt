@@ -13,7 +13,7 @@ use mathlib.Core.Logic.{inl, inr}
 use Rattle.rv_image_types.specs.declared.images.ImageParts.{ImageParts}
 use Rattle.rv_image_types.specs.declared.images.Link.{Link}
 use Rattle.cl_state.specs.Rank.{Rank, below, loaded}
-use Rattle.cl_rank.specs.Deeds.{Act, Deed, IsStamp, PartRun, RankMoves}
+use Rattle.cl_deeds.specs.Deeds.{Act, Deed, IsStamp, PartRun, RankMoves}
 use Rattle.cl_machine.specs.Joined.{OnItsSide}
 use Rattle.cl_machine.specs.Order.{of_rank}
 use Rattle.cl_machine.specs.Parts.{PartRunAt, own}

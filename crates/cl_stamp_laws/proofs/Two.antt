@@ -6,7 +6,7 @@ use Rattle.std.specs.declared.option.Option.TheVariants.{None}
 use Rattle.std.proofs.Common.{refl, sym, ap, ◌∙◌, subst}
 use Rattle.std.proofs.lemmas.Bool.{eq-eqb, ne_eqb}
 use mathlib.Core.Logic.{inl, inr}
-use Rattle.cl_rank.specs.Deeds.{Act, Deed}
+use Rattle.cl_deeds.specs.Deeds.{Act, Deed}
 use Rattle.cl_machine.specs.Joined.{got_for, got_of, made_for}
 use Rattle.cl_machine.specs.Joined.{made_more, made_of, takes_shown, shown_for}
 use Rattle.cl_machine.proofs.Lists.{filter-keeps, filter-skips}

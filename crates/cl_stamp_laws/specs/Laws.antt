@@ -4,7 +4,7 @@ use Rattle.std.specs.List.{AllByRecursion}
 use Rattle.rv_image_types.specs.declared.images.ImageParts.{ImageParts}
 use Rattle.rv_image_types.specs.Image.{IsImage}
 use Rattle.cl_journal.specs.declared.entries.Entry.{Entry}
-use Rattle.cl_rank.specs.Deeds.{Deed, PartRun}
+use Rattle.cl_deeds.specs.Deeds.{Deed, PartRun}
 use Rattle.cl_machine.specs.Boxes.{Box, empty_box}
 use Rattle.cl_machine.specs.declared.steps.Step.{Step}
 use Rattle.cl_machine.specs.Cluster.{Cluster, IsStep, IsRun, loaded_cluster}

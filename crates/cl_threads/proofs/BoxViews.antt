@@ -15,7 +15,7 @@ use Rattle.part_box.specs.declared.view.Receiving.{Receiving}
 use Rattle.part_box.specs.declared.view.Sending.{Sending}
 use Rattle.part_box.specs.Gate.{ready_stamp, taken_stamp}
 use Rattle.part_box.specs.Steps.{with_freed, with_got, with_look, with_made}
-use Rattle.cl_rank.specs.Deeds.{Act, Deed}
+use Rattle.cl_deeds.specs.Deeds.{Act, Deed}
 use Rattle.cl_rank.specs.Sides.{ReceiverActs, SenderActs, is_place, box_id_of}
 use Rattle.cl_machine.specs.Boxes.{box_number}
 use Rattle.cl_machine.specs.Joined.{Got, OnItsSide, got_of, made_of, takes_shown}

@@ -18,7 +18,7 @@ use Rattle.part_box.specs.Settling.{IsSettled}
 use Rattle.part_box.specs.Steps.{nothing_received, nothing_sent}
 use Rattle.part_box.proofs.GateKept.{taken_shown}
 use Rattle.part_phase.specs.Limits.{box_words}
-use Rattle.cl_rank.specs.Deeds.{Deed}
+use Rattle.cl_deeds.specs.Deeds.{Deed}
 use Rattle.cl_machine.specs.Boxes.{Thing, box_number}
 use Rattle.cl_machine.specs.Joined.{BoxJoined, Got, OnItsSide, ShowsTake, gate_stamp, link_of_box, takes_shown}
 use Rattle.cl_machine.specs.Joined as law

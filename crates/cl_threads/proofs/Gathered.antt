@@ -8,8 +8,8 @@ use Rattle.rv_image_types.specs.Image.{IsImage}
 use Rattle.cl_journal.specs.Replaying.{HubHistory, Replays}
 use Rattle.cl_trace.specs.Traces.{TraceView}
 use Rattle.cl_state.specs.Rank.{Rank, loaded}
-use Rattle.cl_rank.specs.Alone.{IsAlone}
-use Rattle.cl_rank.specs.Deeds.{Deed}
+use Rattle.cl_deeds.specs.Alone.{IsAlone}
+use Rattle.cl_deeds.specs.Deeds.{Deed}
 use Rattle.cl_rank.specs.Views.{view_of}
 use Rattle.cl_rank.specs.declared.stops.Stop.{Stop}
 use Rattle.cl_record.specs.Plans.{HasPlans}

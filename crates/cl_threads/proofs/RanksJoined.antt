@@ -6,8 +6,8 @@ use Rattle.std.proofs.lemmas.Option.{same_Some, slice_get_within}
 use Rattle.rv_image_types.specs.declared.images.ImageParts.{ImageParts}
 use Rattle.part_channel.specs.Channels.{ChannelView}
 use Rattle.cl_state.specs.Rank.{Rank, loaded}
-use Rattle.cl_rank.specs.Deeds.{Deed}
-use Rattle.cl_rank.specs.Alone.{IsAlone}
+use Rattle.cl_deeds.specs.Deeds.{Deed}
+use Rattle.cl_deeds.specs.Alone.{IsAlone}
 use Rattle.cl_rank.specs.RankSides.{Sides}
 use Rattle.cl_rank.specs.Views.{view_of}
 use Rattle.cl_machine.specs.Joined.{OnItsSide}

@@ -17,7 +17,7 @@ use Rattle.cl_trace.specs.Traces.{TraceView}
 use Rattle.cl_state.specs.Rank.{below, loaded}
 use Rattle.cl_state.specs.Room.{rank_of}
 use Rattle.cl_state.specs.declared.state.RankState.{RankState}
-use Rattle.cl_rank.specs.Deeds.{Deed, RankMoves}
+use Rattle.cl_deeds.specs.Deeds.{Deed, RankMoves}
 use Rattle.cl_rank.specs.Views.{view_of}
 use Rattle.cl_rank.specs.declared.stops.Stop.{Stop}
 use Rattle.cl_machine.specs.Boxes.{Box, box_number, empty_box}

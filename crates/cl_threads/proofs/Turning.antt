@@ -14,8 +14,8 @@ use Rattle.cl_state.specs.Asked.{asked}
 use Rattle.cl_state.specs.declared.asking.Ask.{Ask}
 use Rattle.cl_state.specs.Rank.{Rank}
 use Rattle.cl_state.proofs.Moves.{told_at}
-use Rattle.cl_rank.specs.Deeds.{Deed, PartRun, RankMoves, answer_of, event_of}
-use Rattle.cl_rank.specs.Alone.{IsAlone}
+use Rattle.cl_deeds.specs.Deeds.{Deed, PartRun, RankMoves, answer_of, event_of}
+use Rattle.cl_deeds.specs.Alone.{IsAlone}
 use Rattle.cl_rank.specs.Plains.{Repeats}
 use Rattle.cl_rank.specs.RankSides.{KeysMove, Sides}
 use Rattle.cl_rank.specs.Turns.{AllStopped, IsActive}

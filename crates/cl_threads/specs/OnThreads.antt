@@ -3,8 +3,8 @@ use Rattle.std.specs.Prelude.{ℕ, ◌≡◌, ◌≤◌, ⊤, List, [], ◌∷�
 use Rattle.std.specs.List.{AllByRecursion}
 use Rattle.rv_image_types.specs.declared.images.ImageVersion.{ImageVersion}
 use Rattle.part_channel.specs.Channels.{ChannelView}
-use Rattle.cl_rank.specs.Deeds.{Deed, PartRun, event_of}
-use Rattle.cl_rank.specs.Alone.{IsAlone}
+use Rattle.cl_deeds.specs.Deeds.{Deed, PartRun, event_of}
+use Rattle.cl_deeds.specs.Alone.{IsAlone}
 use Rattle.cl_rank.specs.RankSides.{AreChannelsOf, KeysMove, Sides}
 use Rattle.cl_rank.specs.Turning.{RankView}
 use Rattle.cl_rank.specs.Views.{view_of}

@@ -5,8 +5,8 @@ use Rattle.rv_image_types.specs.declared.images.Link.{Link}
 use Rattle.cl_journal.specs.declared.entries.Entry.{Entry}
 use Rattle.cl_trace.specs.Traces.{TraceView}
 use Rattle.cl_state.specs.Rank.{Rank, loaded}
-use Rattle.cl_rank.specs.Alone.{IsAlone}
-use Rattle.cl_rank.specs.Deeds.{Deed}
+use Rattle.cl_deeds.specs.Alone.{IsAlone}
+use Rattle.cl_deeds.specs.Deeds.{Deed}
 use Rattle.cl_rank.specs.declared.stops.Stop.{Stop}
 use Rattle.cl_record.specs.Plans.{HasPlans}
 use Rattle.cl_record.specs.declared.plans.Plan.{Plan}

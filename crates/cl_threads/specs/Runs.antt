@@ -15,7 +15,7 @@ use Rattle.cl_trace.specs.declared.events.Event.{Event}
 use Rattle.cl_state.specs.Rank.{Rank}
 use Rattle.cl_state.specs.Room.{rank_of}
 use Rattle.cl_state.specs.declared.state.RankState.{RankState}
-use Rattle.cl_rank.specs.Deeds.{Act, Deed, PartRun, event_of}
+use Rattle.cl_deeds.specs.Deeds.{Act, Deed, PartRun, event_of}
 use Rattle.cl_rank.specs.Sides.{ReceiverActs, SenderActs, is_place, box_id_of}
 use Rattle.cl_rank.specs.declared.stops.Stop.{Stop}
 use Rattle.cl_machine.specs.Cluster.{Cluster, loaded_cluster}

@@ -1,7 +1,7 @@
 //! All turns of a rank, on its own thread.
 
 ghost use Rattle.std.specs.Prelude.{◌≡◌, List, None, Some, false, true};
-ghost use Rattle.cl_rank.specs.Deeds.{Deed};
+ghost use Rattle.cl_deeds.specs.Deeds.{Deed};
 ghost use Rattle.cl_rank.specs.RankSides.{AreChannelsOf};
 ghost use Rattle.cl_rank.specs.Turns.{AllStopped};
 ghost use Rattle.cl_rank.specs.Views.{view_of};

@@ -22,7 +22,7 @@ use Rattle.cl_state.specs.declared.asking.Ask.{Ask}
 use Rattle.cl_state.specs.Asked.{asked}
 use Rattle.cl_state.specs.Rank.{Rank, below, loaded, start_harts}
 use Rattle.cl_state.specs.Told.{told}
-use Rattle.cl_rank.specs.Deeds.{Act, Deed, answer_of, Suits}
+use Rattle.cl_deeds.specs.Deeds.{Act, Deed, answer_of, Suits}
 use Rattle.cl_machine.specs.Cluster.{Cluster, IsRun, loaded_cluster}
 use Rattle.cl_machine.specs.Journal.{Journal}
 use Rattle.cl_machine.specs.Product.{entry_for}

@@ -17,8 +17,8 @@ use Rattle.cl_state.specs.declared.asking.Ask.TheVariants as ask
 use Rattle.cl_state.specs.Asked.{asked}
 use Rattle.cl_state.specs.Rank.{Rank, loaded}
 use Rattle.cl_state.specs.Room.{rank_of}
-use Rattle.cl_rank.specs.Alone.{IsAlone}
-use Rattle.cl_rank.specs.Deeds.{Deed}
+use Rattle.cl_deeds.specs.Alone.{IsAlone}
+use Rattle.cl_deeds.specs.Deeds.{Deed}
 use Rattle.cl_machine.specs.Cluster.{Cluster}
 use Rattle.cl_deadlock.specs.Why.{IsDeadlockVerdict}
 use Rattle.cl_deadlock_laws.specs.Stuck.{IsReachable}

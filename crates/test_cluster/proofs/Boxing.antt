@@ -10,7 +10,7 @@ use Rattle.cl_journal.specs.Replaying.{HubHistory}
 use Rattle.cl_trace.specs.declared.events.Event.{Event}
 use Rattle.cl_trace.specs.declared.events.Kind.{Kind}
 use Rattle.cl_rank.proofs.Lists.{itself}
-use Rattle.cl_rank.specs.Deeds.{Act, IsStamp, event_of, kind_of}
+use Rattle.cl_deeds.specs.Deeds.{Act, IsStamp, event_of, kind_of}
 use Rattle.cl_rank.specs.Sides.{ReceiverActs, SenderActs, is_place, box_id_of}
 use Rattle.cl_rank.specs.RankSides.{KeyMoves, KeysMove, Sides, receiver_of, sender_of}
 use Rattle.cl_rank.specs.Turning.{Answered, IsTurn, RankView}

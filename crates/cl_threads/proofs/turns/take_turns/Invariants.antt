@@ -1,5 +1,5 @@
 use Rattle.std.proofs.Common.{◌≡◌, ◌%◌, ◌-◌, List, None, length}
-use Rattle.cl_rank.specs.Deeds.{Deed}
+use Rattle.cl_deeds.specs.Deeds.{Deed}
 use Rattle.cl_rank.specs.RankSides.{AreChannelsOf}
 use Rattle.cl_rank.specs.Views.{view_of}
 use Rattle.cl_record.specs.Seats.{station}

@@ -1,7 +1,7 @@
 use Rattle.std.proofs.Common.{◌∙◌, length, ap, sym, refl, arith}
 use Rattle.part_phase.specs.declared.sending.SendPhase.{SendPhase}
 use Rattle.cl_trace.specs.declared.events.Event.{Event}
-use Rattle.cl_rank.specs.Deeds.{Act}
+use Rattle.cl_deeds.specs.Deeds.{Act}
 use Rattle.cl_rank.specs.Views.{place_in}
 use Rattle.cl_rank.proofs.Boxes.{length_first}
 use Rattle.cl_rank.proofs.Went.{in_bounds, in_time, keeps, leaves, may_go, no_room, uncalled_event, went_ready}

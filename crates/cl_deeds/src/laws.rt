@@ -1,6 +1,6 @@
 //! Laws of a rank alone, over the definitions alone: functions with empty bodies, whose contracts are the laws.
 
-ghost use Rattle.cl_rank.specs.Laws.{OneRankLaw, RisingLaw};
+ghost use Rattle.cl_deeds.specs.Laws.{OneRankLaw, RisingLaw};
 
 /// The stamps of a rank alone strictly rise, from above its clock.
 pub fn rising_law()

@@ -1,7 +1,7 @@
 -- A rank alone: what it met outside is handed in.
 use Rattle.std.specs.Prelude.{List}
 use Rattle.cl_state.specs.Rank.{Rank}
-use Rattle.cl_rank.specs.Deeds.{Deed, RankMoves, PartRun}
+use Rattle.cl_deeds.specs.Deeds.{Deed, RankMoves, PartRun}
 
 -- the rank alone: what it met outside is handed in
 abbrev pub IsAlone : Rank → List Deed → Rank → Type 0

@@ -1,8 +1,8 @@
 -- Laws of a rank alone.
 use Rattle.std.specs.Prelude.{◌≡◌, ℕ, ◌<◌, List, [], ◌∷◌, ⊤}
 use Rattle.cl_state.specs.Rank.{Rank}
-use Rattle.cl_rank.specs.Deeds.{Deed}
-use Rattle.cl_rank.specs.Alone.{IsAlone}
+use Rattle.cl_deeds.specs.Deeds.{Deed}
+use Rattle.cl_deeds.specs.Alone.{IsAlone}
 
 -- each stamp is above the one before, the first above the clock
 abbrev pub RisesFrom : ℕ → List Deed → Type 0

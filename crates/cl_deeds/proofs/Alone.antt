@@ -2,9 +2,9 @@
 use Rattle.std.proofs.Common.{◌≡◌, ℕ, ◌<◌, [], ◌∷◌, sym, ap, ◌∙◌, subst, arith}
 use Rattle.cl_state.specs.Rank.{Rank}
 use Rattle.cl_state.proofs.Moves.{told_at}
-use Rattle.cl_rank.specs.Deeds.{Act, Deed, answer_of, IsStamp, RankMoves}
-use Rattle.cl_rank.specs.Alone.{IsAlone}
-use Rattle.cl_rank.specs.Laws.{RisesFrom, RisingLaw, OneRankLaw}
+use Rattle.cl_deeds.specs.Deeds.{Act, Deed, answer_of, IsStamp, RankMoves}
+use Rattle.cl_deeds.specs.Alone.{IsAlone}
+use Rattle.cl_deeds.specs.Laws.{RisesFrom, RisingLaw, OneRankLaw}
 
 -- an event's stamp is above its rank's clock
 pub stamp_above : (clock stamp : ℕ) (a : Act) → IsStamp clock a stamp → clock < stamp

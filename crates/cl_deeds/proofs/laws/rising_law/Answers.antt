@@ -1,0 +1,5 @@
+use Rattle.cl_deeds.proofs.Alone as alone
+use Rattle.cl_deeds.proofs.laws.rising_law.Goals as goal
+
+pub returns : goal.returns
+returns c = alone.rising
