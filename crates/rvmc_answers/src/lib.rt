@@ -11,5 +11,5 @@ mod whys;
 pub use answers::{Answer, End};
 pub use images::image_in;
 pub use outputs::{Output, reported};
-pub use rvmc_inspect::{faults, input, listing, recorded, report, stuck, tell_all, verdicts};
+pub use rvmc_inspect::{faults, input, listing, recorded, report, stuck, tell_all};
 pub use whys::told_at;

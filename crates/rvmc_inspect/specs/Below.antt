@@ -9,7 +9,6 @@ pub use Rattle.rvmc_report.specs.Places.{replay_of}
 pub use Rattle.rvmc_report.specs.Recorded.{IsReportOf}
 pub use Rattle.rvmc_report.specs.Report.{newline, rank_ends, report, status_of}
 pub use Rattle.rvmc_report.specs.Stuck.{told_report}
-pub use Rattle.rvmc_report.specs.Verdicts.{verdict_status, verdict_text}
 pub use Rattle.rvmc_report.specs.WholeRecord.{HasEachRank}
 pub use Rattle.rvmc_report.specs.declared.faults.DrawRefusal.TheVariants as drawn
 pub use Rattle.rvmc_report.specs.declared.faults.ExploreRefusal.TheVariants as explored

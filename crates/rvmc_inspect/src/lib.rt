@@ -19,7 +19,7 @@ pub use cl_deadlock::deadlock;
 pub use finding::waits;
 pub use harts::put_harts;
 pub use rvmc_report::{
-    ClusterState, ReplayFault, faults, input, listing, recorded, replay, report, stuck, verdicts,
+    ClusterState, ReplayFault, faults, input, listing, recorded, replay, report, stuck,
 };
 pub use telling::{put_company, why};
 pub use unreceived::put_unreceived;

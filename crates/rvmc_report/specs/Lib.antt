@@ -7,7 +7,6 @@ pub mod Faults
 pub mod OtherFaults
 pub mod Places
 pub mod Input
-pub mod Verdicts
 pub mod Recorded
 pub mod RecordedLaws
 pub mod Below

@@ -1,4 +1,4 @@
-//! What rvmc tells and what it takes: the report of a run and of a record, the verdict on a record, the listing of an image, the
+//! What rvmc tells and what it takes: the report of a run and of a record, the listing of an image, the
 //! faults, and the whole input.
 #![tactic(auto)]
 
@@ -9,7 +9,6 @@ pub mod listing;
 pub mod recorded;
 pub mod report;
 pub mod stuck;
-pub mod verdicts;
 
 pub use cl_debug::{DebugFault, Debugger};
 pub use cl_replay::{ClusterState, ReplayFault, replay};

@@ -25,7 +25,7 @@ use Rattle.rvmc_line.specs.declared.line.CommandLine.TheVariants.{OfImage}
 use Rattle.rvmc_line.specs.declared.line.ImageCommand.TheVariants.{One, OneUntilStuck, Run, RunUntilStuck}
 use Rattle.rvmc_line.specs.declared.line.RecordCommand.TheVariants.{Check}
 use Rattle.rvmc_line.specs.declared.line.Written.TheVariants as written
-use Rattle.rvmc_report.specs.Verdicts.{verdict_status, verdict_text}
+use Rattle.rvmc_views.specs.Verdicts.{verdict_status, verdict_text}
 use Rattle.rvmc_report.specs.declared.faults.Fault.{Fault}
 
 -- the text of the record of a merged run

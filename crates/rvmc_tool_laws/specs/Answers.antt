@@ -21,7 +21,7 @@ use Rattle.rvmc_line.specs.declared.line.RecordCommand.TheVariants.{Check}
 use Rattle.rvmc_line.specs.declared.line.Written.{Written}
 use Rattle.rvmc_line.specs.declared.line.Written.TheVariants as written
 use Rattle.rvmc_report.specs.Report.{RankEnd, report}
-use Rattle.rvmc_report.specs.Verdicts.{verdict_text}
+use Rattle.rvmc_views.specs.Verdicts.{verdict_text}
 use Rattle.rvmc_inspect.specs.Why.{why_text}
 
 -- why a rank stopped, as its harts and the number of its turns have it: all harts are stopped just where that is told;

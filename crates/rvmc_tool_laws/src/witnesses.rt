@@ -10,7 +10,7 @@ ghost use Rattle.rvmc_tool.specs.Making.{needs_threads};
 ghost use Rattle.rvmc_answers.specs.Outputs.{output_bytes};
 ghost use Rattle.rvmc_answers.specs.Plans.{ArePlansOf};
 ghost use Rattle.rvmc_report.specs.Report.{RankEnd, report};
-ghost use Rattle.rvmc_report.specs.Verdicts.{verdict_text};
+ghost use Rattle.rvmc_views.specs.Verdicts.{verdict_text};
 
 use crate::answers::{recorded_is_good, stops_fit};
 use cl_run::Plan;

@@ -10,7 +10,8 @@ use Rattle.rv_image_types.specs.declared.images.ImageParts.{ImageParts}
 use Rattle.rvmc_line.specs.declared.line.RecordCommand.{RecordCommand}
 use Rattle.rvmc_line.specs.declared.line.RecordCommand.TheVariants.{Check, Debug, Draw, List as ListSteps, Page, Report}
 use Rattle.rvmc_line.specs.declared.line.RecordCommand.TheVariants.{Stats, Why}
-use Rattle.rvmc_answers.specs.Below.{Fault, verdict_status, verdict_text}
+use Rattle.rvmc_answers.specs.Below.{Fault}
+use Rattle.rvmc_views.specs.Verdicts.{verdict_status, verdict_text}
 use Rattle.rvmc_answers.specs.Below.faults
 use Rattle.rvmc_answers.specs.Ends.{IsFaulty, end_status}
 use Rattle.rvmc_views.specs.Faults.{HasTold, IsReadFault, IsStepsFault, IsUnread}

@@ -25,8 +25,9 @@ use Rattle.rvmc_page.specs.Records.{IsPage}
 use Rattle.rvmc_page.specs.Texts.{Source}
 use Rattle.rvmc_page.specs.Below.{DrawFaultHolds, IsDrawing, furthest, view_of}
 use Rattle.rvmc_page.specs.Below.draw
-use Rattle.rvmc_answers.specs.Below.{Fault, IsReportOf, IsTextOfWords, fault_of_debug, fault_status, verdict_status}
-use Rattle.rvmc_answers.specs.Below.{replay_of, verdict_text}
+use Rattle.rvmc_answers.specs.Below.{Fault, IsReportOf, IsTextOfWords, fault_of_debug, fault_status}
+use Rattle.rvmc_answers.specs.Below.{replay_of}
+use Rattle.rvmc_views.specs.Verdicts.{verdict_status, verdict_text}
 use Rattle.rvmc_answers.specs.Below.drawn
 use Rattle.rvmc_answers.specs.Below.faults
 use Rattle.rvmc_answers.specs.Below.listed as refusal

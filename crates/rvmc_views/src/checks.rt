@@ -9,9 +9,9 @@ ghost use Rattle.rvmc_answers.specs.Ends.{end_status};
 ghost use Rattle.rvmc_answers.specs.Outputs.{output_bytes};
 ghost use Rattle.rvmc_views.specs.Records.{SaysOfRecord};
 
+use crate::verdicts::{verdict_status, verdict_text};
 use cl_check::{Checked, check_text};
 use rvmc_answers::faults::Fault;
-use rvmc_answers::verdicts::{verdict_status, verdict_text};
 use rvmc_answers::{Answer, End, Output};
 use std::alloc::Global;
 

@@ -9,6 +9,7 @@ mod listing;
 mod paging;
 mod records;
 mod reporting;
+pub mod verdicts;
 
 pub use listing::put_list;
 pub use paging::put_page;

@@ -22,7 +22,7 @@ use rv_image::ImageFault;
 use rvmc_report::faults::Fault;
 use rvmc_report::input::{InputFault, read_input};
 use rvmc_report::report::status;
-use rvmc_report::verdicts::{verdict_status, verdict_text};
+use rvmc_views::verdicts::{verdict_status, verdict_text};
 use std::alloc::{AllocError, Global};
 
 /// A wrong plan is a fault of the input.

@@ -1,6 +1,6 @@
 use Rattle.std.proofs.Common.{refl, subst, sym}
 use Rattle.rvmc_line.specs.declared.line.RecordCommand.TheVariants as command
-use Rattle.rvmc_answers.specs.Below.{verdict_status}
+use Rattle.rvmc_views.specs.Verdicts.{verdict_status}
 use Rattle.rvmc_answers.specs.declared.answers.End.TheVariants.{Status}
 use Rattle.rvmc_views.specs.Records.{SaysOfRecord}
 use Rattle.rvmc_views.proofs.Readings.{check_says}

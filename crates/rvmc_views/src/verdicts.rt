@@ -1,7 +1,7 @@
 //! The line that tells what was found of a record's steps, and its status.
 
 ghost use Rattle.std.specs.Prelude.{◌≡◌, IfOk, string_bytes};
-ghost use Rattle.rvmc_report.specs.Verdicts.{verdict_status, verdict_text};
+ghost use Rattle.rvmc_views.specs.Verdicts.{verdict_status, verdict_text};
 
 use cl_check::Verdict;
 use std::alloc::{AllocError, Global};

@@ -3,7 +3,7 @@ use Rattle.std.specs.Prelude.{ℕ, List, ◌++◌, codes}
 use Rattle.std.specs.Fmt.{decimal}
 use Rattle.cl_check.specs.declared.checking.Verdict.{Verdict}
 use Rattle.cl_check.specs.declared.checking.Verdict.TheVariants.{BadAt, Good}
-use Rattle.rvmc_report.specs.Report.{newline}
+use Rattle.rvmc_answers.specs.Below.{newline}
 
 -- `good LEN` of so many steps, or `bad N` of the step that is wrong
 abbrev pub verdict_text : Verdict → ℕ → List ℕ
