@@ -14,7 +14,7 @@ ghost use Rattle.cl_check.specs.Texts.{EndsWith, HasFound, HasRun, HaveRun, IsBa
 use crate::checking::Verdict;
 use cl_journal::CLOCK_MAX;
 use cl_machine::Step;
-use cl_rank::step_running;
+use cl_plain::step_running;
 use cl_replay::{ClusterState, StepFault};
 use cl_state::RankState;
 use cl_text::{Opened, RecordFault, behind_plain, open_record, read_step};

@@ -13,7 +13,7 @@ use Rattle.cl_state.specs.Rank.{Rank, loaded}
 use Rattle.cl_state.specs.Room.{rank_of}
 use Rattle.cl_state.specs.Same.{IsSameBeside}
 use Rattle.cl_names_laws.specs.Named.{hart_by, table_by}
-use Rattle.cl_record.specs.Keys.{Shows, bytes_in}
+use Rattle.cl_machine.specs.Keys.{Shows, bytes_in}
 use Rattle.cl_machine.specs.Boxes.{Box}
 use Rattle.cl_replay.specs.Boxes.{at_part, settled_at}
 use Rattle.cl_replay.proofs.Boxed.{shown_of_box}

@@ -6,7 +6,7 @@ use Rattle.std.proofs.lemmas.Option.{same_Some, slice_get-map, slice_get_within}
 use Rattle.std.proofs.lemmas.List.{length-append}
 use Rattle.rv_image_types.specs.declared.images.ImageParts.{ImageParts}
 use Rattle.mp_alike_laws.specs.Renaming.{no_renaming}
-use Rattle.cl_record.specs.Plans.{in_slot}
+use Rattle.cl_deeds.specs.Orders.{in_slot}
 use Rattle.cl_machine.specs.declared.steps.Step.{Step}
 use Rattle.cl_machine.specs.Cluster.{Cluster}
 use Rattle.cl_replay.specs.Kept.{RanksAt, ranks_at}

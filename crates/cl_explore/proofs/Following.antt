@@ -8,7 +8,7 @@ use Rattle.rv_image_types.specs.declared.images.ImageParts.{ImageParts}
 use Rattle.cl_machine.specs.Cluster.{Cluster, IsStep}
 use Rattle.cl_machine.specs.declared.steps.Step.{Step}
 use Rattle.cl_turns.specs.declared.Turn.{Turn}
-use Rattle.cl_record.specs.Plans.{in_slot}
+use Rattle.cl_deeds.specs.Orders.{in_slot}
 use Rattle.cl_order_laws.specs.Closed.{Node, one_more}
 use Rattle.cl_order_laws.specs.Orders.{is_miss, turn_of}
 use Rattle.cl_moves.specs.Moves.{AreApart, AreTurnsOf, HasAllTurns}

@@ -6,7 +6,7 @@ use Rattle.rv_image_types.specs.declared.images.ImageParts.{ImageParts}
 use Rattle.cl_machine.specs.Cluster.{Cluster, IsRun}
 use Rattle.cl_machine.specs.declared.steps.Step.{Step}
 use Rattle.cl_replay.specs.Kept.{RanksAt, snapshot, with_hub}
-use Rattle.cl_record.specs.Keys.{ShowsAll}
+use Rattle.cl_machine.specs.Keys.{ShowsAll}
 use Rattle.cl_replay.proofs.Same.{same_stands, snapshot_same}
 use Rattle.cl_order_laws.specs.Alike.{hub_of}
 use Rattle.cl_order_laws.specs.Closed.{FollowPlans, Node, Plans, Turns, had_after, one_more}

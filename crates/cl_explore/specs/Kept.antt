@@ -2,13 +2,13 @@
 use Rattle.std.specs.Prelude.{ℕ, zero, suc, ◌≡◌, ◌<◌, ◌%◌, ◌⊎◌, List, [], length, map, slice_get, Some}
 use Rattle.rv_image_types.specs.declared.images.ImageParts.{ImageParts}
 use Rattle.cl_machine.specs.declared.steps.Step.{Step}
-use Rattle.cl_record.specs.Plans.{in_slot}
+use Rattle.cl_deeds.specs.Orders.{in_slot}
 use Rattle.cl_state.specs.Room.{rank_of}
 use Rattle.cl_state.specs.declared.state.RankState.{RankState}
 use Rattle.cl_replay.specs.declared.states.ClusterState.{ClusterState}
 use Rattle.cl_replay.specs.Kept.{RanksAt, Snapshot, ranks_at, snapshot, with_hub}
 use Rattle.cl_replay.specs.States.{ClusterStandsFor, IsClusterOf}
-use Rattle.cl_record.specs.Keys.{ShowsAll}
+use Rattle.cl_machine.specs.Keys.{ShowsAll}
 use Rattle.cl_order_laws.specs.Alike.{hub_of}
 use Rattle.cl_order_laws.specs.Closed.{IsDone, Node}
 use Rattle.cl_moves.specs.Standing.{HaveHad, IsWay, StandsAt, by_order, first_node}

@@ -1,7 +1,7 @@
 //! Nodes that were found, and one more.
 
 ghost use Rattle.std.specs.Prelude.{◌≡◌, ◌<◌, ◌%◌, ◌⊎◌, [], IfOk, IfSome, true, length};
-ghost use Rattle.cl_record.specs.Plans.{in_slot};
+ghost use Rattle.cl_deeds.specs.Orders.{in_slot};
 ghost use Rattle.cl_state.specs.Room.{rank_of};
 ghost use Rattle.cl_replay.specs.Kept.{ranks_at};
 ghost use Rattle.cl_order_laws.specs.Closed.{IsDone};

@@ -14,3 +14,4 @@ pub mod Joined
 pub mod Laws
 pub mod Worked
 pub mod LoadedRun
+pub mod Keys

@@ -5,7 +5,7 @@ use Rattle.std.proofs.lemmas.Bool.{cases_eq}
 use Rattle.std.proofs.lemmas.Option.{same_Some, slice_get-map}
 use Rattle.mp_wait_laws.proofs.Sets.{get-set_other}
 use Rattle.rv_image_types.specs.declared.images.ImageParts.{ImageParts}
-use Rattle.cl_record.specs.Plans.{in_slot}
+use Rattle.cl_deeds.specs.Orders.{in_slot}
 use Rattle.cl_state.specs.declared.asking.Answer.{Answer}
 use Rattle.cl_state.specs.declared.asking.Ask.{Ask}
 use Rattle.cl_state.specs.Asked.{asked}

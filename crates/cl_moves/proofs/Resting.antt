@@ -12,7 +12,7 @@ use Rattle.mp_hub.specs.Hub.{HubView}
 use Rattle.mp_hub.specs.Vain.{asks_in_vain}
 use Rattle.mp_wait_laws.proofs.Vain.{vain_law}
 use Rattle.cl_journal.specs.Journal.{calls_of}
-use Rattle.cl_record.specs.Plans.{in_slot}
+use Rattle.cl_deeds.specs.Orders.{in_slot}
 use Rattle.cl_state.specs.declared.state.RankState.{RankState}
 use Rattle.cl_state.specs.Rank.{Rank}
 use Rattle.cl_state.specs.Room.{rank_of}

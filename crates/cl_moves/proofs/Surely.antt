@@ -10,7 +10,7 @@ use Rattle.mp_alike_laws.specs.Alike.{AlikeHubs}
 use Rattle.mp_hub.specs.Hub.{Call, reply_of}
 use Rattle.mp_hub.specs.Outcomes.{StandsFor}
 use Rattle.cl_journal.specs.Journal.{calls_of}
-use Rattle.cl_record.specs.Plans.{in_slot}
+use Rattle.cl_deeds.specs.Orders.{in_slot}
 use Rattle.cl_state.specs.declared.asking.Ask.{Ask}
 use Rattle.cl_state.specs.declared.state.RankState.{RankState}
 use Rattle.cl_state.specs.Asked.{asked}

@@ -2,7 +2,7 @@
 
 ghost use Rattle.std.specs.Prelude.{◌≡◌, ◌↔◌, ◌<◌, ◌⊎◌, IfOk, List, Some, false, true, length, slice_get, vec_len};
 ghost use Rattle.rv_image_types.specs.declared.images.ImageParts.{ImageParts};
-ghost use Rattle.cl_record.specs.Plans.{in_slot};
+ghost use Rattle.cl_deeds.specs.Orders.{in_slot};
 ghost use Rattle.cl_state.specs.Rank.{Rank};
 ghost use Rattle.cl_state.specs.Room.{rank_of};
 ghost use Rattle.cl_state_laws.specs.Vain.{IsStopped, mode_of, waits_on as waits_on_of};

@@ -9,7 +9,7 @@ use Rattle.cl_state.specs.Room.{rank_of}
 use Rattle.cl_rank.specs.declared.ranks.Rank.{Rank as Running}
 use Rattle.cl_deeds.specs.Deeds.{Deed}
 use Rattle.cl_rank.specs.Turning.{DeskRule, Tells}
-use Rattle.cl_rank.specs.Turns.{AllStopped, IsActive, all_stopped}
+use Rattle.cl_deeds.specs.Turns.{AllStopped, IsActive, all_stopped}
 use Rattle.cl_rank.specs.Views.{HasTurn, IsOver, TurnEnds, TurnLeaves, hub_deed}
 
 -- a rank of which the code found that some hart isn't stopped

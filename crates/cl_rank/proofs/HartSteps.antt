@@ -10,7 +10,7 @@ use Rattle.rv_memory.specs.Memory.{Memory}
 use Rattle.cl_state.specs.Asked.{is_ecall}
 use Rattle.cl_state.specs.Rank.{Rank}
 use Rattle.cl_rank.specs.Plains.{IsHartStep, IsPlainStep, Repeats}
-use Rattle.cl_rank.proofs.Called.{asks_plain, told_plain}
+use Rattle.cl_plain.proofs.Called.{asks_plain, told_plain}
 
 both_hold : (a b : Bool) → (a && b) ≡ true → (a ≡ true) × (b ≡ true)
 both_hold true b is = (refl, is)

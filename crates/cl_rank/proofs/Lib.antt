@@ -2,7 +2,6 @@ pub mod Anew
 pub mod Answered
 pub mod Asks
 pub mod Boxes
-pub mod Called
 pub mod Clocks
 pub mod Ends
 pub mod HartSteps
@@ -22,7 +21,6 @@ pub mod Tables
 pub mod Taken
 pub mod Turned
 pub mod Went
-pub mod Unstepped
 pub mod QuickReceives
 pub mod QuickSends
 pub mod Same

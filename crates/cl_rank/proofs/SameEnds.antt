@@ -13,7 +13,7 @@ use Rattle.cl_deeds.specs.Deeds.{Act, RankMoves, event_of, request_of}
 use Rattle.cl_sides.specs.Sides.{AreChannelsOf}
 use Rattle.cl_rank.specs.RankSides.{KeysMove}
 use Rattle.cl_rank.specs.Turning.{DeskRule, IsTurn, RankView, StopHolds, TellsAct}
-use Rattle.cl_rank.specs.Turns.{IsActive}
+use Rattle.cl_deeds.specs.Turns.{IsActive}
 use Rattle.cl_rank.specs.Views.{IsOver, IsQuietTurn, TurnEnds, view_of}
 use Rattle.cl_rank.proofs.Ends.{turn_ends}
 

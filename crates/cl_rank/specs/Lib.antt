@@ -5,8 +5,6 @@ pub mod Roomy
 pub mod Tidings
 pub mod Fitting
 pub mod Follows
-pub mod Turns
-pub mod Memory
 pub mod Turning
 pub mod Plains
 pub mod Views

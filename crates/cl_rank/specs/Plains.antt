@@ -12,7 +12,7 @@ use Rattle.cl_state.specs.Rank.{Rank}
 use Rattle.cl_state.specs.Told.{told}
 use Rattle.cl_deeds.specs.Deeds.{Act, Deed, RankMoves, event_of}
 use Rattle.cl_rank.specs.Turning.{RankView}
-use Rattle.cl_rank.specs.Turns.{AllStopped}
+use Rattle.cl_deeds.specs.Turns.{AllStopped}
 
 -- so many steps, each from where the one before it led
 abbrev pub Repeats : {S : Type 0} → (S → S → Type 0) → ℕ → S → S → Type 0

@@ -16,8 +16,8 @@ use Rattle.cl_rank.specs.RankSides.{KeysMove}
 use Rattle.cl_rank.specs.Sides.{box_id_of}
 use Rattle.cl_rank.specs.declared.stops.Stop.{Stop}
 use Rattle.cl_rank.specs.declared.stops.Stop.TheVariants as stop
-use Rattle.cl_rank.specs.Turns.{AllStopped, IsActive}
-use Rattle.cl_rank.specs.Memory.{TurnTakesMemory}
+use Rattle.cl_deeds.specs.Turns.{AllStopped, IsActive}
+use Rattle.cl_deeds.specs.Memory.{TurnTakesMemory}
 
 -- what a desk may do in a call: the desk before, the rank, the hart, the
 -- rank's clock, the request, what was answered with its stamp, the desk after

@@ -25,7 +25,7 @@ use Rattle.cl_rank.specs.Sides.{box_id_of}
 use Rattle.cl_sides.specs.Sides.{AreChannelsOf, sides_in}
 use Rattle.cl_rank.specs.RankSides.{KeysMove}
 use Rattle.cl_rank.specs.Turning.{DeskRule, IsTurn, RankView, StopHolds}
-use Rattle.cl_rank.specs.Turns.{IsActive}
+use Rattle.cl_deeds.specs.Turns.{IsActive}
 
 -- a box as the pair of its link and its number there
 abbrev pub place_in : Option BoxId → Option (ℕ × ℕ)

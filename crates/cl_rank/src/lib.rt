@@ -21,4 +21,3 @@ pub use cl_trace::{Bare, Cursor, Event, Kind, Seen, Trace};
 pub use desks::{Desk, LockedDesk, PlainDesk, Replied};
 pub use ranks::Rank;
 pub use stops::Stop;
-pub use turning::{step_plain, step_running};

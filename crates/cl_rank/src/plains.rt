@@ -7,8 +7,8 @@ ghost use Rattle.cl_rank.specs.Plains.{IsHartStep, IsPlainStep, IsPlainTurn, Rep
 ghost use Rattle.cl_rank.specs.Views.{IsOver, view_of};
 
 use crate::ranks::Rank;
-use crate::turning::step_running;
 use cl_journal::CLOCK_MAX;
+use cl_plain::step_running;
 use cl_state::RankState;
 use rv_hart::Hart;
 use rv_memory::RankMemory;

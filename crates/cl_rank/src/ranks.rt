@@ -8,13 +8,14 @@ ghost use Rattle.cl_rank.specs.Facts.{are_sides_fact};
 ghost use Rattle.cl_rank.specs.Fitting.{RequestsFit};
 ghost use Rattle.cl_sides.specs.Sides.{AreChannelsOf, AreNewSides, AreSides, sides_in};
 ghost use Rattle.cl_rank.specs.Roomy.{IsRoomy, is_roomy_fact};
-ghost use Rattle.cl_rank.specs.Turns.{IsActive};
+ghost use Rattle.cl_deeds.specs.Turns.{IsActive};
 ghost use Rattle.cl_rank.specs.Turning.{Answered, IsCause, IsTurn, StopHolds};
 
 use crate::desks::{Desk, PlainDesk};
 use crate::stops::Stop;
-use crate::turning::{all_stopped, step_plain};
+use crate::turning::all_stopped;
 use cl_journal::{CLOCK_MAX, Hub};
+use cl_plain::step_plain;
 use cl_sides::BoxId;
 use cl_state::RankState;
 use cl_trace::Trace;

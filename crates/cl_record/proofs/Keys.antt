@@ -18,7 +18,7 @@ use Rattle.part_box.proofs.Agreed.{freed_now, got_is_made, made_is, open_is_empt
 use Rattle.part_box.proofs.Lists.{last_take-push}
 use Rattle.part_phase.specs.Limits.{box_words}
 use Rattle.cl_machine.specs.Boxes.{Holds, IsEmpty, with_made, with_taken}
-use Rattle.cl_record.specs.Keys.{bytes_in}
+use Rattle.cl_machine.specs.Keys.{bytes_in}
 use Rattle.cl_record.specs.BoxKeys.{AgreeOn, box_of, last_stamp, thing_of}
 
 pub last_ready-push : (made : List Made) (m : Made) → last_ready (made ++ m ∷ []) ≡ m.stamp

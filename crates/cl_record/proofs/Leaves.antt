@@ -23,7 +23,7 @@ use Rattle.part_channel.specs.Words.{bytes_of_word}
 use Rattle.part_channel.proofs.Words.{length-bytes}
 use Rattle.part_phase.specs.Limits.{box_words}
 use Rattle.cl_machine.specs.Boxes.{Holds}
-use Rattle.cl_record.specs.Keys.{Shows, bytes_in}
+use Rattle.cl_machine.specs.Keys.{Shows, bytes_in}
 use Rattle.cl_record.specs.BoxKeys.{box_of, last_stamp, thing_of}
 use Rattle.cl_record.proofs.Keys.{last_ready-push, stamp_of_empty, stamp_of_full}
 

@@ -3,7 +3,7 @@ use Rattle.std.specs.Prelude.{ℕ, ◌≡◌, length, slice_index}
 use Rattle.std.proofs.Common.{subst, sym, ap, ◌∙◌}
 use mathlib.Core.Logic.{inl, inr}
 use Rattle.cl_state.specs.Asked.{asked}
-use Rattle.cl_rank.specs.Memory.{TurnTakesMemory}
+use Rattle.cl_deeds.specs.Memory.{TurnTakesMemory}
 use Rattle.cl_rank.specs.Turning.{DeskRule, StopHolds}
 use Rattle.cl_rank.specs.declared.stops.Stop.{Stop}
 use Rattle.cl_rank.specs.declared.stops.Stop.TheVariants as stop

@@ -12,7 +12,7 @@ use Rattle.part_box.specs.Rule.{GateRule}
 use Rattle.part_phase.specs.Limits.{box_words}
 use Rattle.cl_rank.specs.RankSides.{Sides, sender_of, receiver_of}
 use Rattle.cl_machine.specs.Boxes.{Box, Thing}
-use Rattle.cl_record.specs.Keys.{bytes_in}
+use Rattle.cl_machine.specs.Keys.{bytes_in}
 
 abbrev pub thing_of : ImageVersion → Made → Thing
 thing_of version m = record { stamp = m.stamp; bytes = bytes_in version m.words }

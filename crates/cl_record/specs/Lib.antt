@@ -1,5 +1,4 @@
 pub mod Plans
-pub mod Keys
 pub mod BoxKeys
 pub mod Records
 pub mod Leaving

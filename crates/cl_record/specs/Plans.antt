@@ -1,16 +1,8 @@
 -- Plans: which harts take a rank's turns, and how many it has; and the order in which ranks take theirs.
-use Rattle.std.specs.Prelude.{ℕ, ◌≡◌, ◌<◌, ◌≤◌, ◌^◌, ◌%◌, List, length, slice_index, All, Contains}
+use Rattle.std.specs.Prelude.{ℕ, ◌≡◌, ◌<◌, ◌≤◌, ◌^◌, List, length, All, Contains}
 use Rattle.rv_image_types.specs.declared.images.ImageParts.{ImageParts}
+use Rattle.cl_deeds.specs.Orders.{IsOrder}
 use Rattle.cl_record.specs.declared.plans.Plan.{Plan}
-
--- an order of turns: some numbers, each of one that is there
-pub record IsOrder (count : ℕ) (order : List ℕ) : Type 0 where
-  pub named : 0 < length order
-  pub there : All (λ number. number < count) order
-
--- whose turn slot n is, where the order is used round and round
-abbrev pub in_slot : List ℕ → ℕ → ℕ
-in_slot order n = slice_index order (n % length order)
 
 -- the harts of a rank that has so many, and 1 to 2^24 turns
 pub record IsPlan (harts : ℕ) (plan : Plan) : Type 0 where

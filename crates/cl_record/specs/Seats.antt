@@ -12,10 +12,10 @@ use Rattle.cl_state.specs.Room.{rank_of}
 use Rattle.cl_deeds.specs.Deeds.{Deed, RankMoves, event_of}
 use Rattle.cl_rank.specs.RankSides.{KeysMove, Sides}
 use Rattle.cl_rank.specs.Sides.{box_id_of}
-use Rattle.cl_rank.specs.Memory.{TurnTakesMemory}
+use Rattle.cl_deeds.specs.Memory.{TurnTakesMemory}
 use Rattle.cl_rank.specs.Plains.{IsPlainTurn}
 use Rattle.cl_rank.specs.Turning.{DeskRule, RankView, StopHolds, Tells}
-use Rattle.cl_rank.specs.Turns.{AllStopped}
+use Rattle.cl_deeds.specs.Turns.{AllStopped}
 use Rattle.cl_rank.specs.Views.{view_of}
 use Rattle.cl_rank.specs.declared.stops.Stop.{Stop}
 use Rattle.cl_record.specs.Wiring.{AreNewEnds}

@@ -1,7 +1,8 @@
 //! Plans: which harts take a rank's turns, and how many it has.
 
 ghost use Rattle.std.specs.Prelude.{◌≡◌, ◌<◌, ◌↔◌, IsTrue, All, Contains};
-ghost use Rattle.cl_record.specs.Plans.{ArePlans, HasPlans, IsOrder, IsPlan, MissesNone};
+ghost use Rattle.cl_deeds.specs.Orders.{IsOrder};
+ghost use Rattle.cl_record.specs.Plans.{ArePlans, HasPlans, IsPlan, MissesNone};
 
 use rv_image_types::Image;
 

@@ -8,7 +8,7 @@ use Rattle.std.proofs.lemmas.Option.{same_Some, slice_get_within}
 use Rattle.rv_image_types.specs.declared.images.ImageParts.{ImageParts}
 use Rattle.rv_image_types.specs.declared.images.ImageVersion.{ImageVersion}
 use Rattle.part_box.specs.declared.settled.Settled.{Settled}
-use Rattle.cl_record.specs.Keys.{Shows, ShowsAll, bytes_in}
+use Rattle.cl_machine.specs.Keys.{Shows, ShowsAll, bytes_in}
 use Rattle.cl_machine.specs.Boxes.{Box, Holds, IsEmpty, Thing, box_number, empty_box, with_made, with_taken}
 use Rattle.cl_machine.proofs.Lists.{get-set_other, get-set_same}
 use Rattle.cl_replay.specs.Boxes.{ChangesBox, at_part, filled, settled_at, vacant}

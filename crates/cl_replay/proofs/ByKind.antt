@@ -23,7 +23,7 @@ use Rattle.cl_state.specs.Rank.{Rank}
 use Rattle.cl_state.specs.Room.{rank_of}
 use Rattle.cl_state.specs.Told.{told}
 use Rattle.cl_trace.specs.declared.events.Kind.{Kind}
-use Rattle.cl_record.specs.Keys.{bytes_in}
+use Rattle.cl_machine.specs.Keys.{bytes_in}
 use Rattle.cl_machine.specs.Boxes.{box_number, with_made, with_taken}
 use Rattle.cl_machine.specs.Cluster.{CaseOf, Cluster, only_told}
 use Rattle.cl_machine.specs.Journal.{reply_in}
@@ -35,7 +35,7 @@ use Rattle.cl_replay.specs.Boxes.{ChangesBox, filled, vacant}
 use Rattle.cl_replay.specs.States.{ClusterStandsFor}
 use Rattle.cl_replay.specs.Steps.{KindTakesMemory, Leads, LeadsNowhere, StepFaultHolds, TakesMemory}
 use Rattle.cl_replay.specs.Turns.{AsksNext, CallFault, Calls, HasCalls, IsFreed, IsLook, IsMiss, IsQuiet, IsReady}
-use Rattle.cl_rank.specs.Memory.{LacksPages}
+use Rattle.cl_deeds.specs.Memory.{LacksPages}
 use Rattle.cl_replay.specs.Turns.{AloneFault, QuietFault}
 use Rattle.cl_replay.specs.Turns.{IsTake, IsTold, Readies, Takes, quiet_ask}
 use Rattle.cl_replay.proofs.Boxed.{empty_is, held_is, shown_of_box, shown_of_settled, shows_made, shows_taken}

@@ -6,7 +6,6 @@ pub mod Lifts
 pub mod Runs
 pub mod Orders
 pub mod Spells
-pub mod Records
 pub mod Same
 pub mod StatesThere
 pub mod Walks

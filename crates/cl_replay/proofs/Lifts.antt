@@ -15,7 +15,7 @@ use Rattle.cl_state.specs.Rank.{Rank}
 use Rattle.cl_state.specs.Room.{rank_of}
 use Rattle.cl_state.specs.Told.{told}
 use Rattle.cl_trace.specs.declared.events.Kind.{Kind}
-use Rattle.cl_record.specs.Keys.{Shows, ShowsAll}
+use Rattle.cl_machine.specs.Keys.{Shows, ShowsAll}
 use Rattle.cl_machine.specs.Boxes.{Box}
 use Rattle.cl_machine.specs.Cluster.{CaseOf, Cluster, IsStep, only_told, ranks_told, with_box}
 use Rattle.cl_machine.specs.Journal.{with_entry}

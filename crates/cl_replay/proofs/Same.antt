@@ -7,7 +7,7 @@ use Rattle.part_box.specs.declared.settled.Settled.{Settled}
 use Rattle.std.proofs.Common.{ap, get_or, subst, sym, ◌∙◌}
 use Rattle.std.proofs.Math.Seq.{map-set_same}
 use Rattle.mp_hub.specs.Outcomes.{StandsFor as HubStandsFor}
-use Rattle.cl_record.specs.Keys.{ShowsAll}
+use Rattle.cl_machine.specs.Keys.{ShowsAll}
 use Rattle.cl_state.specs.Room.{rank_of}
 use Rattle.cl_state.specs.declared.state.RankState.{RankState}
 use Rattle.cl_journal.specs.Journal.{calls_of}

@@ -14,7 +14,7 @@ use Rattle.cl_state.specs.Asked.{asked}
 use Rattle.cl_state.specs.Moves.{Known}
 use Rattle.cl_state.specs.Rank.{Rank}
 use Rattle.cl_state.proofs.Known.{known}
-use Rattle.cl_record.specs.Keys.{bytes_in}
+use Rattle.cl_machine.specs.Keys.{bytes_in}
 
 front : (xs ys : List ℕ) (n : ℕ) → length xs ≡ n → take n (xs ++ ys) ≡ xs
 front [] ys n e = subst (λ m. take m ys ≡ []) e refl

@@ -17,8 +17,8 @@ use Rattle.cl_state.specs.declared.asking.Ask.{Ask}
 use Rattle.cl_state.specs.declared.state.RankState.{RankState}
 use Rattle.cl_state.specs.Asked.{is_ecall}
 use Rattle.cl_state.specs.Room.{rank_of}
-use Rattle.cl_rank.proofs.Called.{asks_plain, told_plain}
-use Rattle.cl_rank.proofs.Unstepped.{unstepped}
+use Rattle.cl_plain.proofs.Called.{asks_plain, told_plain}
+use Rattle.cl_plain.proofs.Unstepped.{unstepped}
 use Rattle.cl_trace.specs.declared.events.Kind.{Kind}
 use Rattle.cl_replay.specs.declared.states.ClusterState.{ClusterState}
 use Rattle.cl_replay.specs.InnerStates.{AreSame}

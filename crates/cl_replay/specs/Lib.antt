@@ -5,7 +5,6 @@ pub mod Turns
 pub mod Steps
 pub mod Replays
 pub mod Replaying
-pub mod Records
 pub mod Laws
 pub mod InnerReplaying
 pub mod InnerStates

@@ -4,7 +4,7 @@ use Rattle.rv_image_types.specs.declared.images.ImageParts.{ImageParts}
 use Rattle.mp_hub.specs.Outcomes.{StandsFor as HubStandsFor}
 use Rattle.cl_state.specs.Rank.{Rank}
 use Rattle.cl_state.specs.Room.{rank_of}
-use Rattle.cl_record.specs.Keys.{ShowsAll}
+use Rattle.cl_machine.specs.Keys.{ShowsAll}
 use Rattle.cl_machine.specs.Boxes.{Box}
 use Rattle.cl_machine.specs.Cluster.{Cluster}
 use Rattle.cl_journal.specs.Journal.{calls_of}

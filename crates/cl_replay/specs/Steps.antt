@@ -15,7 +15,7 @@ use Rattle.cl_machine.specs.Journal.{reply_in}
 use Rattle.cl_replay.specs.declared.states.ClusterState.{ClusterState}
 use Rattle.cl_replay.specs.declared.faults.StepFault.{StepFault}
 use Rattle.cl_replay.specs.States.{ClusterStandsFor}
-use Rattle.cl_rank.specs.Memory.{LacksPages}
+use Rattle.cl_deeds.specs.Memory.{LacksPages}
 
 -- whichever cluster the old state is, the step leads from it to one that the new state is
 abbrev pub Leads : ClusterState → Step → ClusterState → Type 0

@@ -16,8 +16,8 @@ use Rattle.cl_state.specs.Right.{growth_of}
 use Rattle.cl_state.specs.Rank.{Rank}
 use Rattle.cl_state.specs.Told.{told}
 use Rattle.cl_trace.specs.declared.events.Kind.{Kind}
-use Rattle.cl_rank.specs.Memory.{LacksPages}
-use Rattle.cl_record.specs.Keys.{bytes_in}
+use Rattle.cl_deeds.specs.Memory.{LacksPages}
+use Rattle.cl_machine.specs.Keys.{bytes_in}
 use Rattle.cl_machine.specs.Boxes.{box_number}
 use Rattle.cl_machine.specs.declared.steps.Step.{Step}
 use Rattle.cl_replay.specs.declared.faults.StepFault.{StepFault}

@@ -22,6 +22,6 @@ pub use cl_machine::{KindRef, Step};
 pub use faults::{StepFault, WalkFault};
 pub use kept::{KeptRanks, SharedRank};
 pub use kept_cluster::KeptCluster;
-pub use laws::{merged_replays_law, run_law};
+pub use laws::run_law;
 pub use replaying::{ReplayFault, replay};
 pub use states::ClusterState;

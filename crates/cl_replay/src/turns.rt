@@ -9,7 +9,7 @@ ghost use Rattle.cl_state.specs.Room.{rank_of};
 ghost use Rattle.cl_state.specs.TurnRoom.{HasRoom, IsNext};
 ghost use Rattle.cl_state.specs.Told.{told};
 ghost use Rattle.cl_trace.specs.Traces.{kind_of_bare};
-ghost use Rattle.cl_rank.specs.Memory.{LacksPages};
+ghost use Rattle.cl_deeds.specs.Memory.{LacksPages};
 ghost use Rattle.cl_replay.specs.Turns.{AloneFault, AsksNext, IsFreed, IsLook, IsMiss, IsQuiet, IsReady, IsTake};
 ghost use Rattle.cl_replay.specs.Turns.{IsTold, QuietFault, Readies, Takes, quiet_ask};
 
@@ -18,7 +18,7 @@ use crate::faults::StepFault;
 use crate::words::{contents, to_words};
 use cl_journal::CLOCK_MAX;
 use cl_machine::{KindRef, Step};
-use cl_rank::step_plain;
+use cl_plain::step_plain;
 use cl_state::{Answer, Ask, Doing, RankState};
 use cl_trace::Bare;
 use mp_types::Stamp;

@@ -9,7 +9,7 @@ use crate::states::ClusterState;
 use crate::stepping::is_plain_step;
 use cl_journal::CLOCK_MAX;
 use cl_machine::Step;
-use cl_rank::step_running;
+use cl_plain::step_running;
 use cl_state::RankState;
 use mp_types::Stamp;
 use rv_hart::Hart;

@@ -2,7 +2,7 @@
 
 ghost use Rattle.std.specs.Prelude.{◌≡◌, ◌%◌, ◌≤◌, ◌++◌, ◌-◌, length, replicate};
 ghost use Rattle.part_channel.specs.Words.{bytes_of_words};
-ghost use Rattle.cl_record.specs.Keys.{bytes_in};
+ghost use Rattle.cl_machine.specs.Keys.{bytes_in};
 
 use part_channel::{put_word, word};
 use part_phase::{Contents, box_words};

@@ -14,7 +14,7 @@ use Rattle.cl_calls.specs.declared.sites.Site.{Site}
 use Rattle.cl_journal.specs.Replaying.{HubHistory}
 use Rattle.cl_rank.specs.declared.stops.Stop.{Stop}
 use Rattle.cl_record.specs.BoxKeys.{HasKeysOf}
-use Rattle.cl_record.specs.Plans.{in_slot}
+use Rattle.cl_deeds.specs.Orders.{in_slot}
 use Rattle.cl_record.specs.Seats.{station}
 use Rattle.cl_record.specs.declared.plans.Plan.{Plan}
 use Rattle.cl_record.specs.declared.seats.Seat.{Seat}

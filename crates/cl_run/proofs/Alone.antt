@@ -18,7 +18,7 @@ use Rattle.cl_rank.specs.RankSides.{AreChannelsOf}
 use Rattle.cl_rank.specs.Turning.{Answered}
 use Rattle.cl_rank.specs.declared.stops.Stop.{Stop}
 use Rattle.cl_record.specs.BoxKeys.{HasKeysOf}
-use Rattle.cl_record.specs.Plans.{in_slot}
+use Rattle.cl_deeds.specs.Orders.{in_slot}
 use Rattle.cl_record.specs.Seats.{Station, TakesPlainTurn, station}
 use Rattle.cl_record.specs.declared.plans.Plan.{Plan}
 use Rattle.cl_record.specs.declared.seats.Seat.{Seat}

@@ -14,7 +14,7 @@ use Rattle.cl_rank.specs.Plains.{Repeats}
 use Rattle.cl_rank.specs.RankSides.{Sides, receiver_of, sender_of}
 use Rattle.cl_rank.specs.Turning.{Answered}
 use Rattle.cl_record.specs.BoxKeys.{AgreeOn, HasKeysOf}
-use Rattle.cl_record.specs.Plans.{in_slot}
+use Rattle.cl_deeds.specs.Orders.{in_slot}
 use Rattle.cl_record.specs.Seats.{Station, TakesPlainTurn, station}
 use Rattle.cl_record.specs.declared.plans.Plan.{Plan}
 use Rattle.cl_record.specs.declared.seats.Seat.{Seat}

@@ -11,7 +11,7 @@ use Rattle.cl_journal.specs.declared.entries.Entry.{Entry}
 use Rattle.cl_machine.specs.Boxes.{box_number}
 use Rattle.cl_machine.specs.Cluster.{IsRun, loaded_cluster}
 use Rattle.cl_machine.specs.declared.steps.Step.{Step}
-use Rattle.cl_rank.specs.Turns.{all_stopped}
+use Rattle.cl_deeds.specs.Turns.{all_stopped}
 use Rattle.cl_rank.specs.declared.stops.Stop.{Stop}
 use Rattle.cl_record.proofs.Elements.{at_below, from_map, to_map}
 use Rattle.cl_record.specs.BoxKeys.{IsBoxOf}

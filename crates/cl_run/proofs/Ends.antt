@@ -38,7 +38,7 @@ use Rattle.cl_machine.specs.Cluster.{loaded_cluster}
 use Rattle.cl_record.specs.Seats.{IsFresh, Station, station}
 use Rattle.cl_run.specs.Driver.{AreSeated, IsDriver, IsJoined, IsLeftBy, IsStoppedAt}
 use Rattle.cl_run.specs.Driver.{stations}
-use Rattle.cl_record.specs.Keys.{Shows}
+use Rattle.cl_machine.specs.Keys.{Shows}
 use Rattle.cl_record.specs.BoxKeys.{HasKeysOf, box_of}
 use Rattle.cl_record.specs.Plans.{ArePlans}
 use Rattle.cl_record.specs.Records.{IsEndOf, is_hub}

@@ -27,7 +27,7 @@ use Rattle.cl_run.specs.Driver.{Agree, AreJoined, AreSeated, IsJoined, IsStopped
 use Rattle.cl_record.specs.Seats.{Station, station}
 use Rattle.cl_run.specs.Driver.{left, left_of, stations}
 use Rattle.cl_record.specs.BoxKeys.{HasKeysOf}
-use Rattle.cl_record.specs.Plans.{in_slot}
+use Rattle.cl_deeds.specs.Orders.{in_slot}
 use Rattle.cl_run.specs.UnderWay.{IsUnderWay}
 use Rattle.cl_machine.proofs.Lists.{get-set_same, get-set_other}
 use Rattle.cl_record.proofs.Elements.{at_below, link_at}

@@ -20,14 +20,14 @@ use Rattle.cl_state.proofs.Moves.{told_at}
 use Rattle.cl_deeds.proofs.Alone.{clock_moved}
 use Rattle.cl_deeds.specs.Deeds.{Deed, answer_of, event_of, kind_of, Act, request_of}
 use Rattle.cl_state.specs.Asked.{asked}
-use Rattle.cl_rank.specs.Turns.{IsActive}
+use Rattle.cl_deeds.specs.Turns.{IsActive}
 use Rattle.cl_rank.specs.Turning.{Answered, IsCause, Refuses, StopHolds, stop_of}
 use Rattle.cl_rank.specs.declared.stops.Stop.{Stop}
 use Rattle.cl_record.specs.declared.plans.Plan.{Plan}
 use Rattle.cl_machine.specs.declared.steps.Step.{Step}
 use Rattle.cl_record.specs.Seats.{Station, Stops, TakesTurn}
 use Rattle.cl_machine.specs.Order.{of_rank}
-use Rattle.cl_record.specs.Plans.{in_slot}
+use Rattle.cl_deeds.specs.Orders.{in_slot}
 use Rattle.cl_machine.specs.Product.{entry_of}
 use Rattle.cl_machine.specs.ProductSteps.{step_of}
 use Rattle.cl_record.specs.Records.{AsksHub, HasTurn, hub_calls, is_hub, step_by}

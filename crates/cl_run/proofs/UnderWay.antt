@@ -9,7 +9,7 @@ use mathlib.Core.Logic.{inl, inr}
 use Rattle.rv_image_types.specs.declared.images.ImageParts.{ImageParts}
 use Rattle.rv_image_types.specs.declared.images.Link.{Link}
 use Rattle.cl_journal.specs.Replaying.{HubHistory}
-use Rattle.cl_rank.specs.Turns.{AllStopped}
+use Rattle.cl_deeds.specs.Turns.{AllStopped}
 use Rattle.cl_calls.specs.declared.sites.Site.{Site}
 use Rattle.cl_state.specs.Rank.{Rank, site_of}
 use Rattle.cl_state.proofs.Moves.{told_at}
@@ -26,7 +26,7 @@ use Rattle.cl_machine.specs.Cluster.{Cluster, IsRun, IsStep, loaded_cluster}
 use Rattle.cl_record.specs.Seats.{Station, Stops, TakesTurn}
 use Rattle.cl_run.specs.Driver.{Agree, IsStoppedAt}
 use Rattle.cl_record.specs.BoxKeys.{HasKeysOf}
-use Rattle.cl_record.specs.Plans.{in_slot}
+use Rattle.cl_deeds.specs.Orders.{in_slot}
 use Rattle.cl_machine.specs.Product.{box_at}
 use Rattle.cl_machine.specs.ProductSteps.{BoxMoves, step_of}
 use Rattle.cl_run.specs.UnderWay.{AreBoxes, IsSoFar, IsUnderWay, Round, cluster_of, shown}

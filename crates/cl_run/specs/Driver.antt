@@ -8,7 +8,7 @@ use Rattle.part_channel.specs.Channels.{ChannelView}
 use Rattle.cl_rank.specs.RankSides.{AreChannelsOf, receiver_of, sender_of}
 use Rattle.cl_rank.specs.Turning.{Answered}
 use Rattle.cl_rank.specs.declared.ranks.Rank.{Rank as RankOfTurns}
-use Rattle.cl_rank.specs.Turns.{all_stopped}
+use Rattle.cl_deeds.specs.Turns.{all_stopped}
 use Rattle.cl_rank.specs.declared.stops.Stop.{Stop}
 use Rattle.cl_state.specs.Rank.{Rank, below, loaded}
 use Rattle.rv_image_types.specs.declared.images.ImageParts.{ImageParts}

@@ -1,6 +1,6 @@
 -- Turns by an order that is used round and round.
 use Rattle.std.specs.Prelude.{ℕ, ◌≡◌, ◌≢◌, ◌<◌, ◌≤◌, ◌+◌, List, [], ◌∷◌, All, ⊤}
-use Rattle.cl_record.specs.Plans.{in_slot}
+use Rattle.cl_deeds.specs.Orders.{in_slot}
 
 -- the turns from slot `from` on, each by the number of who took it: the first stands in a slot that names it, those
 -- that the slots before name take no later turn, and the others follow behind that slot

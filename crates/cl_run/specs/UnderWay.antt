@@ -17,7 +17,7 @@ use Rattle.cl_machine.specs.Journal.{journal_of}
 use Rattle.cl_machine.specs.Journal as cluster
 use Rattle.cl_machine.specs.Order.{of_rank}
 use Rattle.cl_record.specs.BoxKeys.{IsBoxOf}
-use Rattle.cl_record.specs.Plans.{in_slot}
+use Rattle.cl_deeds.specs.Orders.{in_slot}
 use Rattle.cl_record.specs.Records.{FollowsPlan, hub_calls, is_hub, step_by}
 use Rattle.cl_run.specs.Runs.{HasCause, NoneIdles}
 use Rattle.cl_record.specs.declared.plans.Plan.{Plan}

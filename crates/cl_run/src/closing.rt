@@ -1,7 +1,7 @@
 //! Seats at their ends.
 
 ghost use Rattle.std.specs.Prelude.{◌≡◌};
-ghost use Rattle.cl_rank.specs.Turns.{all_stopped};
+ghost use Rattle.cl_deeds.specs.Turns.{all_stopped};
 ghost use Rattle.cl_record.specs.Seats.{station};
 ghost use Rattle.cl_run.specs.Driver.{last_stop, told_stop};
 ghost use Rattle.cl_state.specs.Room.{rank_of};

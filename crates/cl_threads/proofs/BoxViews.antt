@@ -21,7 +21,7 @@ use Rattle.cl_machine.specs.Boxes.{box_number}
 use Rattle.cl_machine.specs.Joined.{Got, OnItsSide, got_of, made_of, takes_shown}
 use Rattle.cl_machine.specs.Parts.{is_index, own}
 use Rattle.cl_machine.specs.Product.{box_at, box_for}
-use Rattle.cl_record.specs.Keys.{bytes_in}
+use Rattle.cl_machine.specs.Keys.{bytes_in}
 use Rattle.cl_record.specs.BoxKeys.{thing_of}
 use Rattle.cl_threads.specs.Runs.{OnBox}
 use Rattle.cl_threads.proofs.KeyRuns.{ReceiverGoes, SenderGoes}

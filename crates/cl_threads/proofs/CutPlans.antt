@@ -5,7 +5,8 @@ use Rattle.std.proofs.lemmas.Option.{get_or_from_slice_get, slice_get_within}
 use Rattle.rv_image_types.specs.declared.images.ImageParts.{ImageParts}
 use Rattle.cl_rank.specs.declared.stops.Stop.{Stop}
 use Rattle.cl_record.proofs.Elements.{at_below}
-use Rattle.cl_record.specs.Plans.{HasPlans, IsOrder, IsPlan}
+use Rattle.cl_deeds.specs.Orders.{IsOrder}
+use Rattle.cl_record.specs.Plans.{HasPlans, IsPlan}
 use Rattle.cl_record.specs.declared.plans.Plan.{Plan}
 use Rattle.cl_record.specs.declared.records.Record.{Record}
 use Rattle.cl_threads.specs.Cuts.{AreBy, IsBy, IsRunUntil}

@@ -27,7 +27,7 @@ use Rattle.cl_machine.specs.Journal.{journal_of}
 use Rattle.cl_machine.specs.Order.{of_rank}
 use Rattle.cl_machine.specs.Parts.{PartRunAt}
 use Rattle.cl_machine.specs.Product.{entry_of}
-use Rattle.cl_record.specs.Keys.{Shows, ShowsAll}
+use Rattle.cl_machine.specs.Keys.{Shows, ShowsAll}
 use Rattle.cl_record.specs.BoxKeys.{box_of}
 use Rattle.cl_record.specs.Plans.{HasPlans}
 use Rattle.cl_record.specs.declared.plans.Plan.{Plan}

@@ -18,12 +18,12 @@ use Rattle.cl_deeds.specs.Deeds.{Deed, PartRun, RankMoves, answer_of, event_of}
 use Rattle.cl_deeds.specs.Alone.{IsAlone}
 use Rattle.cl_rank.specs.Plains.{Repeats}
 use Rattle.cl_rank.specs.RankSides.{KeysMove, Sides}
-use Rattle.cl_rank.specs.Turns.{AllStopped, IsActive}
+use Rattle.cl_deeds.specs.Turns.{AllStopped, IsActive}
 use Rattle.cl_rank.specs.Turning.{DeskRule, IsCause, IsFault, RankView, stop_of}
 use Rattle.cl_rank.specs.Views.{view_of}
 use Rattle.cl_rank.specs.declared.stops.Stop.{Stop}
 use Rattle.cl_record.proofs.Elements.{last_or_before}
-use Rattle.cl_record.specs.Plans.{in_slot}
+use Rattle.cl_deeds.specs.Orders.{in_slot}
 use Rattle.cl_record.specs.Records.{AsksHub, FollowsPlan, HasTurn}
 use Rattle.cl_record.proofs.Plains.{plain_turn}
 use Rattle.cl_record.specs.Seats.{GoesOn, Station, Stops, TakesPlainTurn, TakesTurn, station}

@@ -2,7 +2,7 @@
 use Rattle.std.specs.Prelude.{◌≡◌, ◌<◌, ◌-◌, ◌^◌, ◌⊎◌, List, length}
 use Rattle.cl_trace.specs.declared.events.Event.{Event}
 use Rattle.cl_state.specs.Rank.{Rank}
-use Rattle.cl_rank.specs.Turns.{AllStopped}
+use Rattle.cl_deeds.specs.Turns.{AllStopped}
 use Rattle.cl_rank.specs.declared.stops.Stop.{Stop}
 use Rattle.cl_record.specs.Records.{AsksHub, HasTurn}
 use Rattle.cl_record.specs.declared.plans.Plan.{Plan}

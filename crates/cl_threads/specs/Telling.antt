@@ -1,7 +1,7 @@
 -- When a rank is told to stop, and when none was.
 use Rattle.std.specs.Prelude.{ℕ, ◌≡◌, ◌<◌, ◌≤◌, List, length, slice_get, Some}
 use Rattle.cl_trace.specs.Traces.{TraceView}
-use Rattle.cl_rank.specs.Turns.{AllStopped}
+use Rattle.cl_deeds.specs.Turns.{AllStopped}
 use Rattle.cl_rank.specs.declared.stops.Stop.{Stop}
 use Rattle.cl_record.specs.Seats.{station}
 use Rattle.cl_record.specs.declared.plans.Plan.{Plan}

@@ -3,7 +3,7 @@
 ghost use Rattle.std.specs.Prelude.{◌≡◌, List, None, Some, false, true};
 ghost use Rattle.cl_deeds.specs.Deeds.{Deed};
 ghost use Rattle.cl_rank.specs.RankSides.{AreChannelsOf};
-ghost use Rattle.cl_rank.specs.Turns.{AllStopped};
+ghost use Rattle.cl_deeds.specs.Turns.{AllStopped};
 ghost use Rattle.cl_rank.specs.Views.{view_of};
 ghost use Rattle.cl_rank.specs.declared.stops.Stop.{Stop};
 ghost use Rattle.cl_record.specs.declared.plans.Plan.{Plan};

@@ -12,7 +12,7 @@ use Rattle.cl_rank.specs.declared.stops.Stop.{Stop}
 use Rattle.cl_rank.specs.declared.stops.Stop.TheVariants.{AllEnded}
 use Rattle.cl_record.specs.Records.{step_by, steps_by, steps_in}
 use Rattle.cl_record.specs.declared.records.Record.{Record}
-use Rattle.cl_replay.proofs.Records.{merged_replays}
+use Rattle.cl_replay_laws.proofs.Records.{merged_replays}
 use Rattle.cl_replay.specs.declared.states.ClusterState.{ClusterState}
 use Rattle.cl_state.specs.Rank.{Rank}
 use Rattle.cl_state.specs.Room.{rank_of}

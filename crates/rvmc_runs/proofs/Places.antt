@@ -4,7 +4,7 @@ use Rattle.cl_machine.specs.Merge.{IsMerge}
 use Rattle.cl_machine.specs.declared.steps.Step.{Step}
 use Rattle.cl_record.specs.Records.{IsMergedRun, steps_in}
 use Rattle.cl_record.specs.declared.records.Record.{Record}
-use Rattle.cl_replay.proofs.Records.{merged_replays}
+use Rattle.cl_replay_laws.proofs.Records.{merged_replays}
 use Rattle.cl_replay.specs.InnerReplaying.{BreaksAt, ReplayFaultHolds}
 use Rattle.cl_replay.specs.declared.replaying.ReplayFault.{ReplayFault}
 use Rattle.cl_replay.specs.declared.replaying.ReplayFault.TheVariants as replay

@@ -2,7 +2,8 @@
 use Rattle.std.proofs.Common.{◌≡◌, ◌<◌, ◌≤◌, ℕ, List, Bool, true, false, ◌+◌, ap, refl, sym, true≢false, arith}
 use Rattle.std.specs.Prelude.{◌↔◌, Result, Err}
 use Rattle.std.proofs.Math.Nat.{lt_of_not-le, not-le_of_lt}
-use Rattle.cl_record.specs.Plans.{HasPlans, IsOrder, IsPlan}
+use Rattle.cl_deeds.specs.Orders.{IsOrder}
+use Rattle.cl_record.specs.Plans.{HasPlans, IsPlan}
 use Rattle.cl_record.specs.declared.plans.Plan.{Plan}
 use Rattle.cl_record.specs.declared.records.RunFault.{RunFault}
 use Rattle.cl_record.specs.declared.records.RunFault.TheVariants as run

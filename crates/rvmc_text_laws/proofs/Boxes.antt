@@ -10,7 +10,7 @@ use Rattle.cl_machine.specs.Boxes.{Box, IsEmpty, box_number}
 use Rattle.cl_deadlock_laws.proofs.Boxes.{not_held}
 use Rattle.cl_order_laws.specs.Alike.{AlikeBoxes, AreEach}
 use Rattle.cl_order_laws.proofs.Boxes.{empty_before, empty_too}
-use Rattle.cl_record.specs.Keys.{Shows, ShowsAll}
+use Rattle.cl_machine.specs.Keys.{Shows, ShowsAll}
 use Rattle.rvmc_inspect.specs.Waits.{box_is_full, is_full_box, part_holds}
 
 -- what shows an empty box isn't full, and what shows a full one is

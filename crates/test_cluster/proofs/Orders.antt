@@ -6,7 +6,7 @@ use Rattle.std.proofs.lemmas.List.Elements.{All-contains}
 use Rattle.rv_image_types.specs.declared.images.ImageParts.{ImageParts}
 use Rattle.cl_machine.specs.declared.steps.Step.{Step}
 use Rattle.cl_rank.specs.declared.stops.Stop.TheVariants.{Budget}
-use Rattle.cl_record.specs.Plans.{in_slot}
+use Rattle.cl_deeds.specs.Orders.{in_slot}
 use Rattle.cl_record.specs.declared.plans.Plan.{Plan}
 use Rattle.cl_record.specs.declared.records.Record.{Record}
 use Rattle.cl_run.specs.Rounds.{GoesRound}

@@ -8,7 +8,8 @@ use Rattle.std.proofs.lemmas.Nat.{mod-mul-add}
 use Rattle.std.proofs.lemmas.Option.{get_or_from_slice_get, slice_get_within}
 use mathlib.Core.Logic.{inl, inr}
 use Rattle.rv_image_types.specs.declared.images.ImageParts.{ImageParts}
-use Rattle.cl_record.specs.Plans.{ArePlans, IsOrder, IsPlan}
+use Rattle.cl_deeds.specs.Orders.{IsOrder}
+use Rattle.cl_record.specs.Plans.{ArePlans, IsPlan}
 use Rattle.cl_record.specs.declared.plans.Plan.{Plan}
 use Rattle.cl_record.specs.declared.records.Record.{Record}
 use Rattle.cl_run.specs.Runs.{IsOneRun}

@@ -4,7 +4,7 @@ use Rattle.std.proofs.Common.{sym, ap, ◌∙◌, subst, arith}
 use Rattle.std.proofs.lemmas.Option.{same_Some, slice_get_within}
 use Rattle.rv_image_types.specs.declared.images.ImageParts.{ImageParts}
 use Rattle.part_box.specs.declared.settled.Settled.{Settled}
-use Rattle.cl_record.specs.Keys.{ShowsAll}
+use Rattle.cl_machine.specs.Keys.{ShowsAll}
 use Rattle.cl_trace.specs.declared.events.Kind.{Kind}
 use Rattle.cl_machine.proofs.Lists.{get-set_same}
 use Rattle.cl_machine.specs.Boxes.{Box, IsEmpty, box_number, with_taken}

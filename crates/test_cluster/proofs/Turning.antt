@@ -16,9 +16,9 @@ use Rattle.cl_state.specs.Asked.{asked}
 use Rattle.cl_state.specs.Rank.{Rank}
 use Rattle.cl_rank.specs.declared.stops.Stop.{Stop}
 use Rattle.cl_deeds.specs.Deeds.{Act, Suits, IsStamp, kind_of, request_of}
-use Rattle.cl_rank.specs.Turns.{AllStopped, IsActive}
+use Rattle.cl_deeds.specs.Turns.{AllStopped, IsActive}
 use Rattle.cl_rank.specs.Turning.{Answered, DeskRule, IsTurn, RankView, StopHolds, TellsAct}
-use Rattle.cl_rank.specs.Turns.{all_stopped as all_stopped_of}
+use Rattle.cl_deeds.specs.Turns.{all_stopped as all_stopped_of}
 use Rattle.cl_deeds.proofs.Alone.{clock_moved, stamp_above}
 use Rattle.test_cluster.specs.Turns.{EndsWith, Enters, IsReplied, LeavesOne, StoppedRows}
 

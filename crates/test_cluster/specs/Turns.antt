@@ -13,7 +13,7 @@ use Rattle.cl_state.specs.Rank.{Rank}
 use Rattle.rv_hart.specs.State.{State}
 use Rattle.rv_memory.specs.declared.fault.Cause.{Cause}
 use Rattle.rv_hart.specs.declared.state.Wait.{Wait}
-use Rattle.cl_rank.specs.Turns.{AllStopped}
+use Rattle.cl_deeds.specs.Turns.{AllStopped}
 
 -- one event more: of this hart, with a stamp above the rank's clock before, which is its clock now
 pub record LeavesOne (hart : ℕ) (old new : Rank) (before after : List Event) : Type 0 where

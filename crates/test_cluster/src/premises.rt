@@ -3,7 +3,7 @@
 ghost use Rattle.std.specs.Prelude.{◌≡◌, ◌≤◌, All, IfSome, length};
 ghost use Rattle.cl_machine.specs.Merge.{IsMerge};
 ghost use Rattle.cl_record.specs.Records.{IsMergedRun, steps_in};
-ghost use Rattle.cl_replay.specs.Records.{ShowsRecord};
+ghost use Rattle.cl_replay_laws.specs.Records.{ShowsRecord};
 ghost use Rattle.cl_check.specs.declared.checking.Verdict.TheVariants as verdict;
 ghost use Rattle.cl_text.specs.Limits.{FitsStep};
 ghost use Rattle.rv_image_types.specs.Image.{IsImage};
@@ -12,7 +12,8 @@ use cl_check::{Verdict, check, merged_is_good_law};
 use cl_machine::Step;
 use cl_merge::merge;
 use cl_record::{Plan, Record};
-use cl_replay::{ClusterState, merged_replays_law, replay};
+use cl_replay::{ClusterState, replay};
+use cl_replay_laws::laws::merged_replays_law;
 use cl_run::run_one;
 use cl_text_laws::laws::records_fit_law;
 use rv_image_types::Image;

@@ -5,7 +5,7 @@ ghost use Rattle.mp_types.specs.declared.requests.Request.{Request};
 ghost use Rattle.cl_state.specs.declared.asking.Ask.TheVariants as ask;
 ghost use Rattle.cl_state.specs.Asked.{asked};
 ghost use Rattle.cl_state.specs.Room.{rank_of};
-ghost use Rattle.cl_rank.specs.Turns.{AllStopped};
+ghost use Rattle.cl_deeds.specs.Turns.{AllStopped};
 ghost use Rattle.cl_rank.specs.Views.{view_of};
 ghost use Rattle.cl_trace.specs.declared.events.Kind.TheVariants as kind;
 ghost use Rattle.test_cluster.specs.Boxes.{KeepsKeys, KeepsOthers, LooksInVain, MakesOne};

@@ -6,7 +6,7 @@ use Rattle.rv_memory.specs.Memory.{Memory}
 use Rattle.cl_state.specs.Room.{rank_of}
 use Rattle.cl_rank.specs.Plains.{IsHartStep, Repeats}
 use Rattle.cl_rank.proofs.HartSteps.{hart_steps}
-use Rattle.cl_rank.proofs.Unstepped.{unstepped}
+use Rattle.cl_plain.proofs.Unstepped.{unstepped}
 use Rattle.cl_rank.proofs.plains.step_plains.Goals as goal
 
 pub returns-clause-steps : goal.returns-clause-steps

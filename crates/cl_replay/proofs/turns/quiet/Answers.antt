@@ -6,7 +6,7 @@ use Rattle.cl_state.specs.Right.{growth_of}
 use Rattle.cl_state.specs.Room.{rank_of}
 use Rattle.cl_state.specs.TurnRoom.{writes_of}
 use Rattle.cl_state.specs.Writes.{missing_for}
-use Rattle.cl_rank.specs.Memory.{LacksPages}
+use Rattle.cl_deeds.specs.Memory.{LacksPages}
 use Rattle.cl_replay.proofs.Asks.{either, quiet_grows}
 use Rattle.cl_replay.proofs.turns.quiet.Goals as goal
 

@@ -1,6 +1,6 @@
 use Rattle.std.proofs.Common.{refl, subst}
 use Rattle.cl_state.specs.Room.{rank_of}
-use Rattle.cl_rank.specs.Memory.{LacksPages}
+use Rattle.cl_deeds.specs.Memory.{LacksPages}
 use Rattle.cl_replay.proofs.Asks.{positive}
 use Rattle.cl_replay.proofs.turns.room.Goals as goal
 

@@ -1,7 +1,7 @@
 use Rattle.std.proofs.Common.{◌*◌, refl, sym, ap, ◌∙◌, subst, length, map, replicate}
 use Rattle.rv_image_types.specs.declared.images.ImageParts.{ImageParts}
 use Rattle.cl_state.specs.Rank.{below, loaded}
-use Rattle.cl_record.specs.Keys.{ShowsAll}
+use Rattle.cl_machine.specs.Keys.{ShowsAll}
 use Rattle.cl_machine.specs.Boxes.{empty_box}
 use Rattle.cl_replay.proofs.Boxed.{shows_loaded}
 use Rattle.cl_replay.proofs.Clusters.{of_loaded}

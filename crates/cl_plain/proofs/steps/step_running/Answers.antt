@@ -1,7 +1,7 @@
 use Rattle.std.proofs.Common.{sym, ap, ◌∙◌}
 use Rattle.rv_hart.specs.Effect.{After}
-use Rattle.cl_rank.proofs.Called.{left, not_met}
-use Rattle.cl_rank.proofs.turning.step_running.Goals as goal
+use Rattle.cl_plain.proofs.Called.{left, not_met}
+use Rattle.cl_plain.proofs.steps.step_running.Goals as goal
 
 pub returns-in-Call-clause-same_hart : goal.returns-in-Call-clause-same_hart
 returns-in-Call-clause-same_hart c = λ _.

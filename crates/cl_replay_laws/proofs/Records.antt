@@ -13,12 +13,12 @@ use Rattle.cl_machine.specs.Journal.{Journal}
 use Rattle.cl_journal.specs.Journal.{calls_of}
 use Rattle.cl_machine.proofs.Tables.{one_end}
 use Rattle.cl_machine.proofs.Verdicts.{one_merge}
-use Rattle.cl_record.specs.Keys.{Shows, bytes_in}
+use Rattle.cl_machine.specs.Keys.{Shows, bytes_in}
 use Rattle.cl_record.specs.Records.{IsEndOf, steps_in}
 use Rattle.cl_record.specs.declared.records.Record.{Record}
 use Rattle.cl_replay.specs.declared.states.ClusterState.{ClusterState}
 use Rattle.cl_replay.specs.Boxes.{settled_at}
-use Rattle.cl_replay.specs.Records.{AreAlike, MergedReplaysLaw, ShowsRecord}
+use Rattle.cl_replay_laws.specs.Records.{AreAlike, MergedReplaysLaw, ShowsRecord}
 use Rattle.cl_replay.specs.States.{ClusterStandsFor}
 use Rattle.cl_replay.proofs.Boxed.{held_is, shown_of_box, shown_of_settled}
 use Rattle.cl_replay.proofs.Runs.{run_law}

@@ -4,8 +4,8 @@ use Rattle.rv_hart.specs.State.{State}
 use Rattle.rv_hart.specs.Stores.{IsThere, store_range}
 use Rattle.rv_memory.specs.Access.{word_at}
 use Rattle.cl_state.specs.Asked.{is_ecall}
-use Rattle.cl_rank.proofs.Unstepped.{at_index, unstepped}
-use Rattle.cl_rank.proofs.turning.step_plain.Goals as goal
+use Rattle.cl_plain.proofs.Unstepped.{at_index, unstepped}
+use Rattle.cl_plain.proofs.steps.step_plain.Goals as goal
 
 pub returns-then-not-step_running-clause-none : goal.returns-then-not-step_running-clause-none
 returns-then-not-step_running-clause-none c = λ undone.

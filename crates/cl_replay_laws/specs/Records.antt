@@ -9,7 +9,7 @@ use Rattle.cl_state.specs.Room.{rank_of}
 use Rattle.cl_machine.specs.Cluster.{Cluster, IsRun, loaded_cluster}
 use Rattle.cl_machine.specs.Merge.{IsMerge}
 use Rattle.cl_machine.specs.declared.steps.Step.{Step}
-use Rattle.cl_record.specs.Keys.{bytes_in}
+use Rattle.cl_machine.specs.Keys.{bytes_in}
 use Rattle.cl_record.specs.Records.{IsEndOf, IsMergedRun, steps_in}
 use Rattle.cl_record.specs.declared.records.Record.{Record}
 use Rattle.cl_replay.specs.declared.states.ClusterState.{ClusterState}

@@ -1,5 +1,0 @@
-use Rattle.cl_replay.proofs.Records as proof
-use Rattle.cl_replay.proofs.laws.merged_replays_law.Goals as goal
-
-pub returns : goal.returns
-returns c = proof.merged_replays
