@@ -184,7 +184,8 @@ class Races:
         size, count = self.random.choice(SHAPES) if self.chance(1, 6) else self.shape
         peer = link[1] if is_source else link[0]
         at = OUTGOING + 8 * self.below(4) if is_source else INCOMING + 8 * self.below(4)
-        lines, handle = self.kept(self.call(PSEND_INIT if is_source else PRECV_INIT, (at,), count, size, peer, 5, 0))
+        tag = 6 if self.chance(1, 8) else 5
+        lines, handle = self.kept(self.call(PSEND_INIT if is_source else PRECV_INIT, (at,), count, size, peer, tag, 0))
         pieces = [lines]
         sent = [self.call(SEND, (OUTGOING,), 1, peer, 7, 0)] if token and is_source else []
         waited = [self.call(RECV, (STATUSES,), 1, peer, 7, 0, 0), self.call(PARRIVED, handle, 0)]

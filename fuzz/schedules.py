@@ -24,7 +24,7 @@ READY, LOOK, FREED = "ready", "look", "freed"
 BOX, PREADY = (READY, LOOK, FREED), 42
 
 RECEIVE, POLL, POLL_OF_SENDS, CLAIM = "receive", "poll", "poll of sends", "claim"
-INIT, POLL_OF_CUTS = "initialisation", "poll of cuts"
+POLL_OF_CUTS = "poll of cuts"
 
 # a rank that goes round and round without others, and never ends
 SPINS = "spins"
@@ -41,6 +41,9 @@ MANNERS.append(COUNTED)
 
 # a send, by how, to whom and where
 Send = collections.namedtuple("Send", "sync dest comm")
+
+# an initialisation, by whether it sends, where, with whom and by which tag, and how many bytes the transfer has in all
+Init = collections.namedtuple("Init", "sends comm peer tag bytes")
 
 # a turn at a box of a link, by its sender or by its receiver
 Side = collections.namedtuple("Side", "sends link")
@@ -143,6 +146,20 @@ def may_miss(asked):
     return asked.name in (*THERE, LOOK, FREED, "claim")
 
 
+def joined(number, init):
+    """The sender and the receiver of a transfer of which a rank initialises a side: its link joins the two."""
+    return (number, init.peer) if init.sends else (init.peer, number)
+
+
+def begins_late(number, mine, other, pattern):
+    """Whether a rank's initialisation contests a pattern of another rank: a poll, which it would answer, or an initialisation for
+    links of the same two ranks, unless it is the other side of the same transfer."""
+    if isinstance(pattern, Init):
+        is_other_side = (mine.comm, mine.tag, mine.bytes) == (pattern.comm, pattern.tag, pattern.bytes)
+        return joined(number, mine) == joined(other, pattern) and not is_other_side
+    return pattern == POLL_OF_CUTS and mine.sends
+
+
 def is_there(hub, boxes, number, asked):
     """Whether a rank would be given what it asks for: a message, that its sends are complete, how a transfer is cut, a partition,
     or that one was taken."""
@@ -210,7 +227,8 @@ class Schedules:
         if asked.name in BOX:
             return Side(asked.name != LOOK, asked.arguments[0])
         if asked.name == "init":
-            return INIT
+            *what, parts, size = asked.arguments
+            return Init(*what, parts * size)
         if asked.waits:
             return None
         return POLL_OF_CUTS if asked.name == "cut" else POLL_OF_SENDS if asked.name in OF_SENDS else POLL
@@ -230,8 +248,8 @@ class Schedules:
             raise Grown
 
     def may_pass(self, number, asked):
-        """Whether a rank's send or receive contests no pattern of another rank."""
-        mine = asked.arguments[:3] if asked.name == "send" else None
+        """Whether a rank's send, receive or initialisation contests no pattern of another rank."""
+        mine = asked.arguments[:3] if asked.name == "send" else self.pattern(asked) if asked.name == "init" else None
         if (number, mine) not in self.passes:
             self.passes[number, mine] = not any(
                 self.contests(number, mine, other, pattern)
@@ -242,10 +260,13 @@ class Schedules:
         return self.passes[number, mine]
 
     def contests(self, number, mine, other, pattern):
-        """Whether a rank's send, given by what it asks, or its receive, which is None, contests a pattern of another rank."""
+        """Whether a rank's send, given by what it asks, its initialisation, or its receive, which is None, contests a pattern of
+        another rank."""
+        if isinstance(mine, Init):
+            return begins_late(number, mine, other, pattern)
         if pattern == CLAIM:
             return True
-        if pattern in (INIT, POLL_OF_CUTS) or isinstance(pattern, Side):
+        if pattern == POLL_OF_CUTS or isinstance(pattern, (Init, Side)):
             return False
         if pattern in (POLL, POLL_OF_SENDS):
             return pattern == POLL_OF_SENDS if mine is None else mine[2] == other
@@ -256,7 +277,7 @@ class Schedules:
         return mine[1:] == (pattern.comm, pattern.dest) and (pattern.dest, pattern.comm) in self.wild
 
     def goes_first(self, state, number):
-        """Whether a rank's next turn goes first: it asks for what is there, or nobody contests its post."""
+        """Whether a rank's next turn goes first: it asks for what is there, or nobody contests its post or its initialisation."""
         asked = state.nexts[number]
         if asked is None or asked == SPINS:
             return False
@@ -264,7 +285,7 @@ class Schedules:
             return state.is_there(number)
         if asked.name in BOX:
             return self.may_meet(number, asked) and (asked.name == READY or (asked.waits and state.is_there(number)))
-        return asked.name not in (*CLAIMS, "init") and self.may_pass(number, asked)
+        return asked.name not in CLAIMS and self.may_pass(number, asked)
 
     def may_meet(self, number, asked):
         """Whether no other rank is on the same side of the link of a box."""

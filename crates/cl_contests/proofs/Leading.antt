@@ -34,7 +34,7 @@ use Rattle.cl_contests.specs.declared.patterns.AskedBy.{AskedBy}
 use Rattle.cl_contests.specs.Going.{IsFirstHart, IsSettledThere, LeadsOn, SettlesFrom}
 use Rattle.cl_contests.specs.Kept.{patterns_of, search_of, wild_of}
 use Rattle.cl_contests.specs.Turns.{AsksWithin, GoesAlone, GoesInVain, GoesWithin, IsBusyKind, IsBusyTurn, IsFirstCall, IsFirstNext, IsFirstTurn, IsMaking, IsMeetingCall, IsMeetingNext, IsMeetingTurn, IsUncontested, IsVainCall, IsVainNext, IsVainTurn, TellsWithin}
-use Rattle.cl_contests.proofs.Settling.{alike_in_vain, alike_missed, settled_there, settles_alone, settles_met, settles_posted, settles_ready}
+use Rattle.cl_contests.proofs.Settling.{alike_in_vain, alike_missed, settled_there, settles_alone, settles_met, settles_uncontested, settles_ready}
 
 -- ---- one after another
 
@@ -233,7 +233,7 @@ first_taken kept old new e within turn took = λ all order first.
           settles_ready (search_of kept) here.cluster next e (rank_of turn.own) there turn.hart_is step asks turn.request
           turn.asks ready
       | inr may ↦
-          settles_posted (search_of kept) here.cluster next e (rank_of turn.own) there turn.hart_is step asks turn.request
+          settles_uncontested (search_of kept) here.cluster next e (rank_of turn.own) there turn.hart_is step asks turn.request
           turn.asks may
     ])
 

@@ -1,5 +1,5 @@
--- Which kept patterns a send or a receive may pass.
-use Rattle.std.specs.Prelude.{ℕ, zero, suc, ◌+◌, ◌<◌, ◌≤◌, ◌≡◌, ◌≢◌, ◌==◌, ◌&&◌, Bool, true, false, cond, not, List, [], ◌∷◌, length, get_or, Option, Some, None}
+-- Which kept patterns a turn may pass.
+use Rattle.std.specs.Prelude.{ℕ, zero, suc, ◌+◌, ◌*◌, ◌<◌, ◌≤◌, ◌≡◌, ◌≢◌, ◌==◌, ◌&&◌, Bool, true, false, cond, not, List, [], ◌∷◌, length, get_or, Option, Some, None}
 use Rattle.std.specs.List.{list_any, slice_get}
 use Rattle.std.proofs.Common.{refl, sym, ap, ◌∙◌, subst, arith, inl, inr}
 use Rattle.std.proofs.lemmas.Bool.{and_parts, cases_eq, eq-eqb, eqb-true, not-true, or_cases}
@@ -13,13 +13,13 @@ use Rattle.mp_source_laws.specs.Alike.{Wild}
 use Rattle.mp_clash_laws.specs.Exchanges.{BringsNothing, NoRace, NoSync}
 use Rattle.cl_reduction_laws.specs.Clusters.{IsAtBox}
 use Rattle.cl_reduction_laws.specs.Settled.{AreOnSides}
-use Rattle.cl_reduction_laws.specs.Patterns.{IsAllowed, MayMeet, MayPass, Pattern as Asked, by_receiver, by_sender, claim, initialisation, own, poll, poll_of_cuts, poll_of_sends, receive, send, unlisted, wait}
+use Rattle.cl_reduction_laws.specs.Patterns.{AreEnds, InitMayPass, IsAllowed, IsInitialisation, MayMeet, MayPass, Pattern as Asked, by_receiver, by_sender, claim, initialisation, own, poll, poll_of_cuts, poll_of_sends, receive, send, unlisted, wait}
 use Rattle.cl_state.specs.declared.asking.Ask.{Ask}
 use Rattle.cl_contests.specs.declared.patterns.AskedBy.{AskedBy}
 use Rattle.cl_contests.specs.declared.patterns.Pattern.{Pattern}
 use Rattle.cl_contests.specs.declared.patterns.Pattern.TheVariants as pattern
 use Rattle.cl_contests.specs.Kept.{is_pattern, is_same_bool, patterns_of, wild_of}
-use Rattle.cl_contests.specs.Passing.{IsOnSide, Keeps, MayMeetKept, MayPassKept, has_pattern, is_wanted}
+use Rattle.cl_contests.specs.Passing.{InitMayPassKept, IsOnSide, Keeps, MayMeetKept, MayPassKept, has_pattern, is_wanted}
 
 pub is_other : (a b : ℕ) → not (a == b) ≡ true → a ≢ b
 is_other a b apart same =
@@ -104,7 +104,7 @@ module _ (kept : List AskedBy) (r : ℕ) (q : Request) (a : AskedBy) where
       each poll same = absurd (cc)
       each poll_of_sends same = absurd (cc)
       each claim same = absurd (cc)
-      each initialisation same = absurd (cc)
+      each (initialisation gives other whom label many) same = absurd (cc)
       each poll_of_cuts same = absurd (cc)
       each (by_sender link) same = absurd (cc)
       each (by_receiver link) same = absurd (cc)
@@ -122,7 +122,7 @@ module _ (kept : List AskedBy) (r : ℕ) (q : Request) (a : AskedBy) where
       each poll same = absurd (cc)
       each poll_of_sends same = absurd (cc)
       each claim same = absurd (cc)
-      each initialisation same = absurd (cc)
+      each (initialisation gives other whom label many) same = absurd (cc)
       each poll_of_cuts same = absurd (cc)
       each (by_sender link) same = absurd (cc)
       each (by_receiver link) same = absurd (cc)
@@ -139,7 +139,7 @@ module _ (kept : List AskedBy) (r : ℕ) (q : Request) (a : AskedBy) where
       each wait same = absurd (cc)
       each poll_of_sends same = absurd (cc)
       each claim same = absurd (cc)
-      each initialisation same = absurd (cc)
+      each (initialisation gives other whom label many) same = absurd (cc)
       each poll_of_cuts same = absurd (cc)
       each (by_sender link) same = absurd (cc)
       each (by_receiver link) same = absurd (cc)
@@ -157,7 +157,7 @@ module _ (kept : List AskedBy) (r : ℕ) (q : Request) (a : AskedBy) where
       each wait same = absurd (cc)
       each poll same = absurd (cc)
       each claim same = absurd (cc)
-      each initialisation same = absurd (cc)
+      each (initialisation gives other whom label many) same = absurd (cc)
       each poll_of_cuts same = absurd (cc)
       each (by_sender link) same = absurd (cc)
       each (by_receiver link) same = absurd (cc)
@@ -166,13 +166,14 @@ module _ (kept : List AskedBy) (r : ℕ) (q : Request) (a : AskedBy) where
   pub passes_source : (comm : ℕ) → a.pattern ≡ pattern.AnySource comm → MayPassKept kept r q a
   passes_source comm is = by (pattern.AnySource comm) is (λ p same. absurd (cc))
 
-  pub passes_initialisation : a.pattern ≡ pattern.Initialisation → MayPassKept kept r q a
-  passes_initialisation is = by pattern.Initialisation is each
+  pub passes_initialisation : (sends : Bool) (comm peer tag bytes : ℕ) → a.pattern ≡ pattern.Initialisation sends comm peer tag bytes
+      → MayPassKept kept r q a
+  passes_initialisation sends comm peer tag bytes is = by (pattern.Initialisation sends comm peer tag bytes) is each
     where
-      each : (p : Asked) → is_pattern pattern.Initialisation p ≡ true → MayPass (wild_of kept) r q a.rank p
-      each initialisation same = tt
+      each : (p : Asked) → is_pattern (pattern.Initialisation sends comm peer tag bytes) p ≡ true → MayPass (wild_of kept) r q a.rank p
+      each (initialisation gives other whom label many) same = tt
       each own same = absurd (cc)
-      each (send its to other) same = absurd (cc)
+      each (send its to from) same = absurd (cc)
       each receive same = absurd (cc)
       each wait same = absurd (cc)
       each poll same = absurd (cc)
@@ -195,7 +196,7 @@ module _ (kept : List AskedBy) (r : ℕ) (q : Request) (a : AskedBy) where
       each poll same = absurd (cc)
       each poll_of_sends same = absurd (cc)
       each claim same = absurd (cc)
-      each initialisation same = absurd (cc)
+      each (initialisation gives other whom label many) same = absurd (cc)
       each (by_sender other) same = absurd (cc)
       each (by_receiver other) same = absurd (cc)
       each unlisted same = absurd (cc)
@@ -212,7 +213,7 @@ module _ (kept : List AskedBy) (r : ℕ) (q : Request) (a : AskedBy) where
       each poll same = absurd (cc)
       each poll_of_sends same = absurd (cc)
       each claim same = absurd (cc)
-      each initialisation same = absurd (cc)
+      each (initialisation gives other whom label many) same = absurd (cc)
       each poll_of_cuts same = absurd (cc)
       each (by_receiver other) same = absurd (cc)
       each unlisted same = absurd (cc)
@@ -229,7 +230,7 @@ module _ (kept : List AskedBy) (r : ℕ) (q : Request) (a : AskedBy) where
       each poll same = absurd (cc)
       each poll_of_sends same = absurd (cc)
       each claim same = absurd (cc)
-      each initialisation same = absurd (cc)
+      each (initialisation gives other whom label many) same = absurd (cc)
       each poll_of_cuts same = absurd (cc)
       each (by_sender other) same = absurd (cc)
       each unlisted same = absurd (cc)
@@ -244,19 +245,36 @@ of_any f (x ∷ xs) is = elim (or_cases (f x) (list_any f xs) is) [
   | inr later ↦ let v = of_any f xs later in (suc v.0, v.1, v.2, v.3)
 ]
 
--- the patterns of other ranks before this place
+-- each pattern of another rank before this place is so
+abbrev pub AreSoBelow : List AskedBy → ℕ → (AskedBy → Type 0) → ℕ → Type 0
+AreSoBelow kept r Is n = (i : ℕ) → i < n → (a : AskedBy) → slice_get kept i ≡ Some a → a.rank ≢ r → Is a
+
+module _ (kept : List AskedBy) (r : ℕ) (Is : AskedBy → Type 0) (n : ℕ) (before : AreSoBelow kept r Is n) where
+  so_more : (a : AskedBy) → slice_get kept n ≡ Some a → (a.rank ≢ r → Is a) → AreSoBelow kept r Is (n + 1)
+  so_more a at here i low x there other = elim (cases_eq n i) [
+    | inl same ↦
+        let is : a ≡ x = same_Some a x (sym at ∙ subst (λ k. slice_get kept k ≡ Some x) (sym same) there) in
+        subst Is is (here (λ e. other (sym (ap (λ (y : AskedBy). y.rank) is) ∙ e)))
+    | inr apart ↦ before i (omega (arith, low, apart)) x there other
+  ]
+
+  -- so is that which a pattern of another rank is kept by
+  so_found : length kept ≤ n → (s : ℕ) (p : Asked) → s ≢ r → patterns_of kept s p ≡ true
+      → (a : AskedBy) × (a.rank ≡ s) × (is_pattern a.pattern p ≡ true) × Is a
+  so_found all s p other has =
+      let v = of_any (λ (a : AskedBy). (a.rank == s) && is_pattern a.pattern p) kept has in
+      let parts = and_parts ((v.1).rank == s) (is_pattern (v.1).pattern p) v.3 in
+      let whose = eqb-true (v.1).rank s parts.0 in
+      let inside = slice_get_within kept v.0 v.1 v.2 in
+      (v.1, whose, parts.1, before v.0 (omega (arith, inside, all)) v.1 v.2 (λ e. other (sym whose ∙ e)))
+
 abbrev pub MayPassBelow : List AskedBy → ℕ → Request → ℕ → Type 0
-MayPassBelow kept r q n = (i : ℕ) → i < n → (a : AskedBy) → slice_get kept i ≡ Some a → a.rank ≢ r → MayPassKept kept r q a
+MayPassBelow kept r q n = AreSoBelow kept r (MayPassKept kept r q) n
 
 module _ (kept : List AskedBy) (r : ℕ) (q : Request) (n : ℕ) (before : MayPassBelow kept r q n) where
   pub passes_more : (a : AskedBy) → slice_get kept n ≡ Some a → (a.rank ≢ r → MayPassKept kept r q a)
       → MayPassBelow kept r q (n + 1)
-  passes_more a at here i low x there other = elim (cases_eq n i) [
-    | inl same ↦
-        let is : a ≡ x = same_Some a x (sym at ∙ subst (λ k. slice_get kept k ≡ Some x) (sym same) there) in
-        subst (λ y. MayPassKept kept r q y) is (here (λ e. other (sym (ap (λ (y : AskedBy). y.rank) is) ∙ e)))
-    | inr apart ↦ before i (omega (arith, low, apart)) x there other
-  ]
+  passes_more = so_more kept r (MayPassKept kept r q) n before
 
   pub passes_all : length kept ≤ n → (s : ℕ) (p : Asked) → s ≢ r → IsAllowed (patterns_of kept) s p
       → MayPass (wild_of kept) r q s p
@@ -264,32 +282,80 @@ module _ (kept : List AskedBy) (r : ℕ) (q : Request) (n : ℕ) (before : MayPa
     where
       found : (x : Asked) → patterns_of kept s x ≡ true → MayPass (wild_of kept) r q s x
       found x has =
-          let v = of_any (λ (a : AskedBy). (a.rank == s) && is_pattern a.pattern x) kept has in
-          let parts = and_parts ((v.1).rank == s) (is_pattern (v.1).pattern x) v.3 in
-          let whose = eqb-true (v.1).rank s parts.0 in
-          let inside = slice_get_within kept v.0 v.1 v.2 in
-          subst (λ k. MayPass (wild_of kept) r q k x) whose
-          (before v.0 (omega (arith, inside, all)) v.1 v.2 (λ e. other (sym whose ∙ e)) x parts.1)
+          let f = so_found kept r (MayPassKept kept r q) n before all s x other has in
+          subst (λ k. MayPass (wild_of kept) r q k x) f.1 (f.3 x f.2)
 
       of : (x : Asked) → IsAllowed (patterns_of kept) s x → MayPass (wild_of kept) r q s x
       of own allowed = tt
       of wait allowed = tt
       of unlisted allowed = absurd allowed
-      of (send sync dest comm) allowed = found (send sync dest comm) allowed
-      of receive allowed = found receive allowed
-      of poll allowed = found poll allowed
-      of poll_of_sends allowed = found poll_of_sends allowed
-      of claim allowed = found claim allowed
-      of initialisation allowed = found initialisation allowed
-      of poll_of_cuts allowed = found poll_of_cuts allowed
-      of (by_sender link) allowed = found (by_sender link) allowed
-      of (by_receiver link) allowed = found (by_receiver link) allowed
+      of x allowed = found x allowed
+
+-- ---- initialisations
+
+module _ (r : ℕ) (sends : Bool) (comm peer tag parts size : ℕ) (a : AskedBy) where
+  abbrev mine : Request
+  mine = request.Init sends comm peer tag parts size
+
+  begins_by : (k : Pattern) → a.pattern ≡ k → ((p : Asked) → is_pattern k p ≡ true → InitMayPass r mine a.rank p)
+      → InitMayPassKept r mine a
+  begins_by k is each p same = each p (sym (ap (λ x. is_pattern x p) is) ∙ same)
+
+  pub begins_cuts : a.pattern ≡ pattern.PollOfCuts → sends ≡ false → InitMayPassKept r mine a
+  begins_cuts is off = begins_by pattern.PollOfCuts is each
+    where
+      each : (p : Asked) → is_pattern pattern.PollOfCuts p ≡ true → InitMayPass r mine a.rank p
+      each poll_of_cuts same = off
+      each _ same = absurd (cc)
+
+  -- of another initialisation, which takes other links or begins the other side of the transfer
+  pub begins_two : (gives : Bool) (other whom label bytes : ℕ) → a.pattern ≡ pattern.Initialisation gives other whom label bytes
+      → (AreEnds r sends peer a.rank gives whom → (comm ≡ other) × (tag ≡ label) × (parts * size ≡ bytes))
+      → InitMayPassKept r mine a
+  begins_two gives other whom label bytes is may = begins_by (pattern.Initialisation gives other whom label bytes) is each
+    where
+      each : (p : Asked) → is_pattern (pattern.Initialisation gives other whom label bytes) p ≡ true
+          → InitMayPass r mine a.rank p
+      each (initialisation way to who called many) same =
+          let mode = and_parts (is_same_bool gives way) ((other == to) && (whom == who) && (label == called) && (bytes == many)) same in
+          let all = and_parts ((other == to) && (whom == who) && (label == called)) (bytes == many) mode.1 in
+          let three = and_parts ((other == to) && (whom == who)) (label == called) all.0 in
+          let two = and_parts (other == to) (whom == who) three.0 in
+          λ ends. (let m = may (ends.0 ∙ ap not (sym (same_mode gives way mode.0)), ends.1, eqb-true whom who two.1 ∙ ends.2) in
+          (m.0 ∙ eqb-true other to two.0, m.1 ∙ eqb-true label called three.1, m.2 ∙ eqb-true bytes many all.1))
+      each _ same = absurd (cc)
+
+abbrev pub MayBeginBelow : List AskedBy → ℕ → Request → ℕ → Type 0
+MayBeginBelow kept r q n = AreSoBelow kept r (InitMayPassKept r q) n
+
+module _ (kept : List AskedBy) (r : ℕ) (q : Request) (n : ℕ) (before : MayBeginBelow kept r q n) where
+  pub begins_more : (a : AskedBy) → slice_get kept n ≡ Some a → (a.rank ≢ r → InitMayPassKept r q a)
+      → MayBeginBelow kept r q (n + 1)
+  begins_more = so_more kept r (InitMayPassKept r q) n before
+
+  pub begins_all : IsInitialisation q → length kept ≤ n → (s : ℕ) (p : Asked) → s ≢ r → IsAllowed (patterns_of kept) s p
+      → InitMayPass r q s p
+  begins_all is all s p other allowed = of p allowed
+    where
+      found : (x : Asked) → patterns_of kept s x ≡ true → InitMayPass r q s x
+      found x has =
+          let f = so_found kept r (InitMayPassKept r q) n before all s x other has in
+          subst (λ k. InitMayPass r q k x) f.1 (f.3 x f.2)
+
+      nothing : (q : Request) → IsInitialisation q → InitMayPass r q s own × InitMayPass r q s wait
+      nothing (request.Init sends comm peer tag parts size) is = (tt, tt)
+      nothing _ is = absurd is
+
+      of : (x : Asked) → IsAllowed (patterns_of kept) s x → InitMayPass r q s x
+      of own allowed = (nothing q is).0
+      of wait allowed = (nothing q is).1
+      of unlisted allowed = absurd allowed
+      of x allowed = found x allowed
 
 -- ---- turns at boxes
 
--- the patterns of other ranks before this place
 abbrev pub MayMeetBelow : List AskedBy → ℕ → Ask → ℕ → Type 0
-MayMeetBelow kept r ask n = (i : ℕ) → i < n → (a : AskedBy) → slice_get kept i ≡ Some a → a.rank ≢ r → MayMeetKept ask a
+MayMeetBelow kept r ask n = AreSoBelow kept r (MayMeetKept ask) n
 
 pub none_contests : (ask : Ask) → IsAtBox ask → MayMeet ask own × MayMeet ask wait
 none_contests (Ask.Ready link part bytes) at = (tt, tt)
@@ -300,37 +366,19 @@ none_contests _ at = absurd at
 module _ (kept : List AskedBy) (r : ℕ) (ask : Ask) (n : ℕ) (before : MayMeetBelow kept r ask n) where
   pub meets_more : (a : AskedBy) → slice_get kept n ≡ Some a → (a.rank ≢ r → MayMeetKept ask a)
       → MayMeetBelow kept r ask (n + 1)
-  meets_more a at here i low x there other = elim (cases_eq n i) [
-    | inl same ↦
-        let is : a ≡ x = same_Some a x (sym at ∙ subst (λ k. slice_get kept k ≡ Some x) (sym same) there) in
-        subst (λ y. MayMeetKept ask y) is (here (λ e. other (sym (ap (λ (y : AskedBy). y.rank) is) ∙ e)))
-    | inr apart ↦ before i (omega (arith, low, apart)) x there other
-  ]
+  meets_more = so_more kept r (MayMeetKept ask) n before
 
   pub meets_all : IsAtBox ask → length kept ≤ n → (s : ℕ) (p : Asked) → s ≢ r → IsAllowed (patterns_of kept) s p → MayMeet ask p
   meets_all at all s p other allowed = of p allowed
     where
       found : (x : Asked) → patterns_of kept s x ≡ true → MayMeet ask x
-      found x has =
-          let v = of_any (λ (a : AskedBy). (a.rank == s) && is_pattern a.pattern x) kept has in
-          let parts = and_parts ((v.1).rank == s) (is_pattern (v.1).pattern x) v.3 in
-          let whose = eqb-true (v.1).rank s parts.0 in
-          let inside = slice_get_within kept v.0 v.1 v.2 in
-          before v.0 (omega (arith, inside, all)) v.1 v.2 (λ e. other (sym whose ∙ e)) x parts.1
+      found x has = (let f = so_found kept r (MayMeetKept ask) n before all s x other has in f.3 x f.2)
 
       of : (x : Asked) → IsAllowed (patterns_of kept) s x → MayMeet ask x
       of own allowed = (none_contests ask at).0
       of wait allowed = (none_contests ask at).1
       of unlisted allowed = absurd allowed
-      of (send sync dest comm) allowed = found (send sync dest comm) allowed
-      of receive allowed = found receive allowed
-      of poll allowed = found poll allowed
-      of poll_of_sends allowed = found poll_of_sends allowed
-      of claim allowed = found claim allowed
-      of initialisation allowed = found initialisation allowed
-      of poll_of_cuts allowed = found poll_of_cuts allowed
-      of (by_sender link) allowed = found (by_sender link) allowed
-      of (by_receiver link) allowed = found (by_receiver link) allowed
+      of x allowed = found x allowed
 
 -- ---- sides of links
 
@@ -387,7 +435,7 @@ wanted_is (pattern.Send sync dest comm) pattern.Poll is = absurd (cc)
 wanted_is (pattern.Send sync dest comm) pattern.PollOfSends is = absurd (cc)
 wanted_is (pattern.Send sync dest comm) pattern.Claim is = absurd (cc)
 wanted_is (pattern.Send sync dest comm) (pattern.AnySource other) is = absurd (cc)
-wanted_is (pattern.Send sync dest comm) pattern.Initialisation is = absurd (cc)
+wanted_is (pattern.Send sync dest comm) (pattern.Initialisation gives where_to whom label many) is = absurd (cc)
 wanted_is (pattern.Send sync dest comm) pattern.PollOfCuts is = absurd (cc)
 wanted_is (pattern.Send sync dest comm) (pattern.BySender other) is = absurd (cc)
 wanted_is (pattern.Send sync dest comm) (pattern.ByReceiver other) is = absurd (cc)
@@ -397,7 +445,7 @@ wanted_is pattern.Receive pattern.Poll is = absurd (cc)
 wanted_is pattern.Receive pattern.PollOfSends is = absurd (cc)
 wanted_is pattern.Receive pattern.Claim is = absurd (cc)
 wanted_is pattern.Receive (pattern.AnySource other) is = absurd (cc)
-wanted_is pattern.Receive pattern.Initialisation is = absurd (cc)
+wanted_is pattern.Receive (pattern.Initialisation gives where_to whom label many) is = absurd (cc)
 wanted_is pattern.Receive pattern.PollOfCuts is = absurd (cc)
 wanted_is pattern.Receive (pattern.BySender other) is = absurd (cc)
 wanted_is pattern.Receive (pattern.ByReceiver other) is = absurd (cc)
@@ -407,7 +455,7 @@ wanted_is pattern.Poll pattern.Poll is = refl
 wanted_is pattern.Poll pattern.PollOfSends is = absurd (cc)
 wanted_is pattern.Poll pattern.Claim is = absurd (cc)
 wanted_is pattern.Poll (pattern.AnySource other) is = absurd (cc)
-wanted_is pattern.Poll pattern.Initialisation is = absurd (cc)
+wanted_is pattern.Poll (pattern.Initialisation gives where_to whom label many) is = absurd (cc)
 wanted_is pattern.Poll pattern.PollOfCuts is = absurd (cc)
 wanted_is pattern.Poll (pattern.BySender other) is = absurd (cc)
 wanted_is pattern.Poll (pattern.ByReceiver other) is = absurd (cc)
@@ -417,7 +465,7 @@ wanted_is pattern.PollOfSends pattern.Poll is = absurd (cc)
 wanted_is pattern.PollOfSends pattern.PollOfSends is = refl
 wanted_is pattern.PollOfSends pattern.Claim is = absurd (cc)
 wanted_is pattern.PollOfSends (pattern.AnySource other) is = absurd (cc)
-wanted_is pattern.PollOfSends pattern.Initialisation is = absurd (cc)
+wanted_is pattern.PollOfSends (pattern.Initialisation gives where_to whom label many) is = absurd (cc)
 wanted_is pattern.PollOfSends pattern.PollOfCuts is = absurd (cc)
 wanted_is pattern.PollOfSends (pattern.BySender other) is = absurd (cc)
 wanted_is pattern.PollOfSends (pattern.ByReceiver other) is = absurd (cc)
@@ -427,7 +475,7 @@ wanted_is pattern.Claim pattern.Poll is = absurd (cc)
 wanted_is pattern.Claim pattern.PollOfSends is = absurd (cc)
 wanted_is pattern.Claim pattern.Claim is = refl
 wanted_is pattern.Claim (pattern.AnySource other) is = absurd (cc)
-wanted_is pattern.Claim pattern.Initialisation is = absurd (cc)
+wanted_is pattern.Claim (pattern.Initialisation gives where_to whom label many) is = absurd (cc)
 wanted_is pattern.Claim pattern.PollOfCuts is = absurd (cc)
 wanted_is pattern.Claim (pattern.BySender other) is = absurd (cc)
 wanted_is pattern.Claim (pattern.ByReceiver other) is = absurd (cc)
@@ -437,27 +485,37 @@ wanted_is (pattern.AnySource comm) pattern.Poll is = absurd (cc)
 wanted_is (pattern.AnySource comm) pattern.PollOfSends is = absurd (cc)
 wanted_is (pattern.AnySource comm) pattern.Claim is = absurd (cc)
 wanted_is (pattern.AnySource comm) (pattern.AnySource other) is = ap (λ c. pattern.AnySource c) (eqb-true other comm is)
-wanted_is (pattern.AnySource comm) pattern.Initialisation is = absurd (cc)
+wanted_is (pattern.AnySource comm) (pattern.Initialisation gives where_to whom label many) is = absurd (cc)
 wanted_is (pattern.AnySource comm) pattern.PollOfCuts is = absurd (cc)
 wanted_is (pattern.AnySource comm) (pattern.BySender other) is = absurd (cc)
 wanted_is (pattern.AnySource comm) (pattern.ByReceiver other) is = absurd (cc)
-wanted_is pattern.Initialisation (pattern.Send its to other) is = absurd (cc)
-wanted_is pattern.Initialisation pattern.Receive is = absurd (cc)
-wanted_is pattern.Initialisation pattern.Poll is = absurd (cc)
-wanted_is pattern.Initialisation pattern.PollOfSends is = absurd (cc)
-wanted_is pattern.Initialisation pattern.Claim is = absurd (cc)
-wanted_is pattern.Initialisation (pattern.AnySource other) is = absurd (cc)
-wanted_is pattern.Initialisation pattern.Initialisation is = refl
-wanted_is pattern.Initialisation pattern.PollOfCuts is = absurd (cc)
-wanted_is pattern.Initialisation (pattern.BySender other) is = absurd (cc)
-wanted_is pattern.Initialisation (pattern.ByReceiver other) is = absurd (cc)
+wanted_is (pattern.Initialisation sends comm peer tag bytes) (pattern.Send its to other) is = absurd (cc)
+wanted_is (pattern.Initialisation sends comm peer tag bytes) pattern.Receive is = absurd (cc)
+wanted_is (pattern.Initialisation sends comm peer tag bytes) pattern.Poll is = absurd (cc)
+wanted_is (pattern.Initialisation sends comm peer tag bytes) pattern.PollOfSends is = absurd (cc)
+wanted_is (pattern.Initialisation sends comm peer tag bytes) pattern.Claim is = absurd (cc)
+wanted_is (pattern.Initialisation sends comm peer tag bytes) (pattern.AnySource other) is = absurd (cc)
+wanted_is (pattern.Initialisation sends comm peer tag bytes) (pattern.Initialisation gives other whom label many) is =
+    let parts = and_parts (is_same_bool gives sends) ((other == comm) && (whom == peer) && (label == tag) && (many == bytes)) is in
+    let all = and_parts ((other == comm) && (whom == peer) && (label == tag)) (many == bytes) parts.1 in
+    let three = and_parts ((other == comm) && (whom == peer)) (label == tag) all.0 in
+    let two = and_parts (other == comm) (whom == peer) three.0 in
+    let way = same_mode gives sends parts.0 in
+    let where_is = eqb-true other comm two.0 in
+    let who = eqb-true whom peer two.1 in
+    let called = eqb-true label tag three.1 in
+    let many_are = eqb-true many bytes all.1 in
+    λ i. pattern.Initialisation (way i) (where_is i) (who i) (called i) (many_are i)
+wanted_is (pattern.Initialisation sends comm peer tag bytes) pattern.PollOfCuts is = absurd (cc)
+wanted_is (pattern.Initialisation sends comm peer tag bytes) (pattern.BySender other) is = absurd (cc)
+wanted_is (pattern.Initialisation sends comm peer tag bytes) (pattern.ByReceiver other) is = absurd (cc)
 wanted_is pattern.PollOfCuts (pattern.Send its to other) is = absurd (cc)
 wanted_is pattern.PollOfCuts pattern.Receive is = absurd (cc)
 wanted_is pattern.PollOfCuts pattern.Poll is = absurd (cc)
 wanted_is pattern.PollOfCuts pattern.PollOfSends is = absurd (cc)
 wanted_is pattern.PollOfCuts pattern.Claim is = absurd (cc)
 wanted_is pattern.PollOfCuts (pattern.AnySource other) is = absurd (cc)
-wanted_is pattern.PollOfCuts pattern.Initialisation is = absurd (cc)
+wanted_is pattern.PollOfCuts (pattern.Initialisation gives where_to whom label many) is = absurd (cc)
 wanted_is pattern.PollOfCuts pattern.PollOfCuts is = refl
 wanted_is pattern.PollOfCuts (pattern.BySender other) is = absurd (cc)
 wanted_is pattern.PollOfCuts (pattern.ByReceiver other) is = absurd (cc)
@@ -467,7 +525,7 @@ wanted_is (pattern.BySender link) pattern.Poll is = absurd (cc)
 wanted_is (pattern.BySender link) pattern.PollOfSends is = absurd (cc)
 wanted_is (pattern.BySender link) pattern.Claim is = absurd (cc)
 wanted_is (pattern.BySender link) (pattern.AnySource other) is = absurd (cc)
-wanted_is (pattern.BySender link) pattern.Initialisation is = absurd (cc)
+wanted_is (pattern.BySender link) (pattern.Initialisation gives where_to whom label many) is = absurd (cc)
 wanted_is (pattern.BySender link) pattern.PollOfCuts is = absurd (cc)
 wanted_is (pattern.BySender link) (pattern.BySender other) is = ap (λ c. pattern.BySender c) (eqb-true other link is)
 wanted_is (pattern.BySender link) (pattern.ByReceiver other) is = absurd (cc)
@@ -477,7 +535,7 @@ wanted_is (pattern.ByReceiver link) pattern.Poll is = absurd (cc)
 wanted_is (pattern.ByReceiver link) pattern.PollOfSends is = absurd (cc)
 wanted_is (pattern.ByReceiver link) pattern.Claim is = absurd (cc)
 wanted_is (pattern.ByReceiver link) (pattern.AnySource other) is = absurd (cc)
-wanted_is (pattern.ByReceiver link) pattern.Initialisation is = absurd (cc)
+wanted_is (pattern.ByReceiver link) (pattern.Initialisation gives where_to whom label many) is = absurd (cc)
 wanted_is (pattern.ByReceiver link) pattern.PollOfCuts is = absurd (cc)
 wanted_is (pattern.ByReceiver link) (pattern.BySender other) is = absurd (cc)
 wanted_is (pattern.ByReceiver link) (pattern.ByReceiver other) is = ap (λ c. pattern.ByReceiver c) (eqb-true other link is)

@@ -32,7 +32,7 @@ use Rattle.cl_reduction_laws.proofs.Below.{call_of}
 use Rattle.cl_moves.specs.Moves.{IsMove, IsNext, Sees}
 use Rattle.cl_moves.specs.Sure.{IsReadyKind}
 use Rattle.cl_moves.proofs.Asking.{move}
-use Rattle.cl_reduction_laws.specs.Clusters.{CanGo, FindsBox, GoesFirst, IsStill, IsWithin, Search, alone, awake_cluster, collects, lone, meets, posts}
+use Rattle.cl_reduction_laws.specs.Clusters.{CanGo, FindsBox, GoesFirst, IsStill, IsWithin, Search, alone, awake_cluster, collects, initialises, lone, meets, posts}
 use Rattle.cl_reduction_laws.specs.Patterns.{IsAllowed, MayMeet, Pattern, at_box, by_receiver, by_sender, pattern_of, pattern_of_ask, unlisted}
 use Rattle.cl_reduction_laws.specs.Settled.{AllWithin, Settles}
 use Rattle.cl_reduction_laws.proofs.Awake.{clusters_awake}
@@ -42,7 +42,7 @@ use Rattle.cl_reduction_laws.proofs.Exchanged.{kept_rank, no_miss}
 use Rattle.cl_reduction_laws.proofs.Good.{IsOnly}
 use Rattle.cl_reduction_laws.proofs.Machine.{same_alike}
 use Rattle.cl_contests.specs.Going.{IsSettledThere, SettlesFrom}
-use Rattle.cl_contests.specs.Turns.{IsFilling, IsMaking, IsUncontested}
+use Rattle.cl_contests.specs.Turns.{IsFilling, IsMaking, IsUncontested, can_begin, can_post}
 
 -- ---- the one turn of a hart that finds what it asks for
 
@@ -187,10 +187,11 @@ module _ (search : Search) (c next : Cluster) (e : Step) (x : Rank) (there : sli
   settles_ready within q asks ready =
       settles_call within (collects q asks (ready_told q asks e.kind refl ready)) q asks
 
-  pub settles_posted : AllWithin search c → (q : Request) → asked x (search.harts e.rank) ≡ Ask.Hub q
+  pub settles_uncontested : AllWithin search c → (q : Request) → asked x (search.harts e.rank) ≡ Ask.Hub q
       → IsUncontested search e.rank q
       → SettlesFrom search c next
-  settles_posted within q asks may = settles_call within (posts q asks may.posts may.pass) q asks
+  settles_uncontested within q asks (can_post post pass) = settles_call within (posts q asks post pass) q asks
+  settles_uncontested within q asks (can_begin is pass) = settles_call within (initialises q asks is pass) q asks
 
   pub settles_lone : AllWithin search c → CanGo (asked x (search.harts e.rank))
       → ((s : ℕ) (other : Rank) → s ≢ e.rank → slice_get c.ranks s ≡ Some other → IsStill c s other (search.harts s))

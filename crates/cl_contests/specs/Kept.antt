@@ -19,7 +19,8 @@ is_pattern pattern.Receive receive = true
 is_pattern pattern.Poll poll = true
 is_pattern pattern.PollOfSends poll_of_sends = true
 is_pattern pattern.Claim claim = true
-is_pattern pattern.Initialisation initialisation = true
+is_pattern (pattern.Initialisation sends comm peer tag bytes) (initialisation gives other whom label many) =
+    is_same_bool sends gives && ((comm == other) && (peer == whom) && (tag == label) && (bytes == many))
 is_pattern pattern.PollOfCuts poll_of_cuts = true
 is_pattern (pattern.BySender link) (by_sender other) = link == other
 is_pattern (pattern.ByReceiver link) (by_receiver other) = link == other

@@ -1,4 +1,4 @@
--- Patterns that are looked up in the list, and those that a send or a receive may pass.
+-- Patterns that are looked up in the list, and those that a turn may pass.
 use Rattle.std.specs.Prelude.{ℕ, ◌≡◌, ◌==◌, ◌&&◌, Bool, true, List}
 use Rattle.std.specs.List.{list_any}
 use Rattle.rv_image_types.specs.declared.images.Link.{Link}
@@ -6,7 +6,7 @@ use Rattle.mp_types.specs.declared.requests.Request.{Request}
 use Rattle.mp_transfers.specs.Inits.{is_receiver}
 use Rattle.mp_wait_laws.specs.Waits.{sends_over}
 use Rattle.cl_state.specs.declared.asking.Ask.{Ask}
-use Rattle.cl_reduction_laws.specs.Patterns.{MayMeet, MayPass, Pattern as Asked, by_receiver, by_sender, claim, initialisation, poll, poll_of_cuts, poll_of_sends, receive, send}
+use Rattle.cl_reduction_laws.specs.Patterns.{InitMayPass, MayMeet, MayPass, Pattern as Asked, by_receiver, by_sender, claim, initialisation, poll, poll_of_cuts, poll_of_sends, receive, send}
 use Rattle.cl_contests.specs.declared.patterns.AskedBy.{AskedBy}
 use Rattle.cl_contests.specs.declared.patterns.Pattern.{Pattern}
 use Rattle.cl_contests.specs.declared.patterns.Pattern.TheVariants as pattern
@@ -19,7 +19,7 @@ is_wanted pattern.Receive kept = is_pattern kept receive
 is_wanted pattern.Poll kept = is_pattern kept poll
 is_wanted pattern.PollOfSends kept = is_pattern kept poll_of_sends
 is_wanted pattern.Claim kept = is_pattern kept claim
-is_wanted pattern.Initialisation kept = is_pattern kept initialisation
+is_wanted (pattern.Initialisation sends comm peer tag bytes) kept = is_pattern kept (initialisation sends comm peer tag bytes)
 is_wanted pattern.PollOfCuts kept = is_pattern kept poll_of_cuts
 is_wanted (pattern.BySender link) kept = is_pattern kept (by_sender link)
 is_wanted (pattern.ByReceiver link) kept = is_pattern kept (by_receiver link)
@@ -32,6 +32,10 @@ has_pattern kept r wanted = list_any (λ (a : AskedBy). (a.rank == r) && is_want
 -- the call of rank r may go before what is asked by this kept pattern
 abbrev pub MayPassKept : List AskedBy → ℕ → Request → AskedBy → Type 0
 MayPassKept kept r q a = (p : Asked) → is_pattern a.pattern p ≡ true → MayPass (wild_of kept) r q a.rank p
+
+-- the initialisation of rank r may go before what is asked by this kept pattern
+abbrev pub InitMayPassKept : ℕ → Request → AskedBy → Type 0
+InitMayPassKept r q a = (p : Asked) → is_pattern a.pattern p ≡ true → InitMayPass r q a.rank p
 
 -- the turn at a box may go before what is asked by this kept pattern
 abbrev pub MayMeetKept : Ask → AskedBy → Type 0

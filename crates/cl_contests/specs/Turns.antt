@@ -19,7 +19,7 @@ use Rattle.cl_moves.specs.Standing.{StandsAt}
 use Rattle.cl_moves.specs.Sure.{IsReadyKind}
 use Rattle.cl_moves.specs.declared.standing.Standing.{Standing}
 use Rattle.cl_reduction_laws.specs.Clusters.{Search, awake_cluster}
-use Rattle.cl_reduction_laws.specs.Patterns.{IsAllowed, MayMeet, MayPass, Pattern, pattern_of}
+use Rattle.cl_reduction_laws.specs.Patterns.{InitMayPass, IsAllowed, IsInitialisation, MayMeet, MayPass, Pattern, pattern_of}
 use Rattle.cl_reduction_laws.specs.Settled.{AllWithin}
 use Rattle.cl_contests.specs.declared.patterns.AskedBy.{AskedBy}
 use Rattle.cl_contests.specs.Going.{IsFirstHart, LeadsOn, SettlesFrom}
@@ -70,10 +70,13 @@ TellsWithin search standing within =
 
 -- ---- turns that nobody contests
 
--- a send or a receive that may pass whatever other ranks may ask
-pub record IsUncontested (search : Search) (r : ℕ) (q : Request) : Type 0 where
-  pub posts : IsPosting q
-  pub pass : (s : ℕ) (p : Pattern) → s ≢ r → IsAllowed search.patterns s p → MayPass search.wild r q s p
+-- a send or a receive, or an initialisation, that may pass whatever other ranks may ask
+pub data IsUncontested (search : Search) (r : ℕ) (q : Request) : Type 0 where
+  can_post : IsPosting q → ((s : ℕ) (p : Pattern) → s ≢ r → IsAllowed search.patterns s p → MayPass search.wild r q s p)
+      → IsUncontested search r q
+  can_begin : IsInitialisation q
+      → ((s : ℕ) (p : Pattern) → s ≢ r → IsAllowed search.patterns s p → InitMayPass r q s p)
+      → IsUncontested search r q
 
 -- the next turn of a rank, a call for what is there, or one that nobody contests
 pub record IsFirstTurn (search : Search) (standing : Standing) (e : Step) : Type 0 where

@@ -8,6 +8,7 @@ use cl_machine::Step;
 use cl_moves::{MoveFault, Standing};
 use cl_state::Ask;
 use cl_trace::Bare;
+use rv_image_types::RANKS_MAX;
 
 /// The kind of a turn that needs only its rank and goes on, of a hart that asks this.
 fn busy_kind(ask: &Ask) -> Option<Bare>
@@ -65,7 +66,7 @@ fn each_alone(standing: &mut Standing, most: u64) -> Result<Option<u8>, MoveFaul
     ensures { OnOk result (GoesAlone standing.old standing.new) }
 {
     let mut long = None;
-    for rank in 0..8u8 {
+    for rank in 0..RANKS_MAX {
         let fewer = go_alone(standing, rank, most)?;
         if !fewer && long.is_none() {
             long = Some(rank);

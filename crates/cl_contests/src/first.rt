@@ -16,6 +16,7 @@ use cl_machine::{KindRef, Step};
 use cl_moves::{MoveFault, Standing, is_in_vain, turns_of};
 use cl_state::{Ask, RankState};
 use mp_types::{Reply, Request};
+use rv_image_types::RANKS_MAX;
 use std::alloc::Global;
 
 /// How many looks at messages that are there are taken in a row: a rank that looks for ever changes nothing.
@@ -85,15 +86,15 @@ fn first_call(
 ) -> Result<Option<Step>, MoveFault>
     ensures { IfOk result (IsFirstCall (search_of patterns.now.kept.items) rank request.now) }
 {
-    let posts = patterns.may_pass(rank, request);
-    if !posts && (!is_look(request) || standing.cluster.hub.asks_in_vain(rank, request)) {
+    let free = patterns.is_uncontested(rank, request);
+    if !free && (!is_look(request) || standing.cluster.hub.asks_in_vain(rank, request)) {
         return Ok(None);
     }
     let mut turns = turns_of(alloc, &standing.cluster, rank, 0)?;
     let Some(turn) = turns.pop() else {
         return Ok(None);
     };
-    if posts || is_ready_turn(&turn, request) {
+    if free || is_ready_turn(&turn, request) {
         Ok(Some(turn))
     } else {
         Ok(None)
@@ -185,7 +186,7 @@ fn first_meeting(
 ) -> Result<Option<Step>, MoveFault>
     ensures { IfOk result (IsMeetingNext (search_of patterns.now.kept.items) standing.now) }
 {
-    for rank in 0..8u8 {
+    for rank in 0..RANKS_MAX {
         if let Some(turn) = next_meeting(alloc, standing, rank, patterns)? {
             return Ok(Some(turn));
         }
@@ -201,7 +202,7 @@ fn next_first(
 ) -> Result<Option<Step>, MoveFault>
     ensures { IfOk result (IsFirstNext (search_of patterns.now.kept.items) standing.now) }
 {
-    for rank in 0..8u8 {
+    for rank in 0..RANKS_MAX {
         if let Some(turn) = first_of(alloc, standing, rank, patterns)? {
             return Ok(Some(turn));
         }

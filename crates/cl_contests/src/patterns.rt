@@ -1,18 +1,20 @@
 //! What ranks ask for, without post numbers and without bytes.
 
-ghost use Rattle.std.specs.Prelude.{◌≡◌, ◌≢◌, ◌↔◌, Bool, IfOk, IsTrue, None, OnOk, true, [], cond, false, vec_len, ℕ};
+ghost use Rattle.std.specs.Prelude.{◌*◌, ◌≡◌, ◌≢◌, ◌↔◌, Bool, IfOk, IsTrue, None, OnOk, true, [], cond, false, vec_len, ℕ};
 ghost use Rattle.mp_types.specs.declared.requests.Request.TheVariants as calls;
 ghost use Rattle.mp_source_laws.specs.Laws.{AsksFrom, AsksWithin};
 ghost use Rattle.mp_clash_laws.specs.Exchanges.{BringsNothing, IsPosting, NoRace, NoSync};
 ghost use Rattle.cl_reduction_laws.specs.Below.{AskWithin};
-ghost use Rattle.cl_reduction_laws.specs.Patterns.{IsAllowed, MayMeet, MayPass, Pattern as Asked, at_box, pattern_of_ask};
+ghost use Rattle.cl_reduction_laws.specs.Patterns.{AreEnds, InitMayPass, IsAllowed, IsInitialisation, MayMeet, MayPass};
+ghost use Rattle.cl_reduction_laws.specs.Patterns.{Pattern as Asked, at_box, pattern_of_ask};
 ghost use Rattle.cl_reduction_laws.specs.Patterns.{by_receiver, by_sender, pattern_of_request, poll, poll_of_cuts};
 ghost use Rattle.cl_reduction_laws.specs.Patterns.{poll_of_sends, wait};
 ghost use Rattle.cl_reduction_laws.specs.Settled.{AreOnSides};
 ghost use Rattle.cl_reduction_laws.specs.Clusters.{IsAtBox};
-ghost use Rattle.cl_contests.specs.Kept.{is_same_bool, patterns_of, wild_of};
-ghost use Rattle.cl_contests.specs.Passing.{IsOnSide, Keeps, MayMeetKept, MayPassKept, has_pattern};
+ghost use Rattle.cl_contests.specs.Kept.{is_same_bool, patterns_of, search_of, wild_of};
+ghost use Rattle.cl_contests.specs.Passing.{InitMayPassKept, IsOnSide, Keeps, MayMeetKept, MayPassKept, has_pattern};
 ghost use Rattle.cl_contests.specs.Passing.{is_wanted as is_wanted_of};
+ghost use Rattle.cl_contests.specs.Turns.{IsUncontested};
 
 use cl_state::Ask;
 use mp_types::Request;
@@ -23,7 +25,11 @@ use std::alloc::{AllocError, Global};
 #[derive(Clone, Copy, Drop)]
 pub enum Pattern {
     /// A send, synchronous or not, to this rank in this communicator.
-    Send { sync: bool, dest: u8, comm: u8 },
+    Send {
+        sync: bool,
+        dest: u8,
+        comm: u8,
+    },
     /// A receive.
     Receive,
     /// A poll of a receive or a look for a message: where nothing is there the rank goes on.
@@ -33,15 +39,27 @@ pub enum Pattern {
     /// A claim, or the receive of a message that was claimed.
     Claim,
     /// A receive or a probe of any source in this communicator.
-    AnySource { comm: u8 },
-    /// PSEND_INIT or PRECV_INIT.
-    Initialisation,
+    AnySource {
+        comm: u8,
+    },
+    /// PSEND_INIT where it sends, else PRECV_INIT: in this communicator, with this peer and tag, of so many bytes in all.
+    Initialisation {
+        sends: bool,
+        comm: u8,
+        peer: u8,
+        tag: u16,
+        bytes: u32,
+    },
     /// The question how a sender cut its transfer: where that isn't known the rank goes on.
     PollOfCuts,
     /// PREADY of a partition of this link, or the question whether one was taken.
-    BySender { link: u8 },
+    BySender {
+        link: u8,
+    },
     /// A look at a partition of this link.
-    ByReceiver { link: u8 },
+    ByReceiver {
+        link: u8,
+    },
 }
 
 /// A pattern, and the rank that asks so.
@@ -75,12 +93,37 @@ fn is_wanted(wanted: Pattern, kept: Pattern) -> bool
         (Pattern::PollOfSends, Pattern::PollOfSends) => true,
         (Pattern::Claim, Pattern::Claim) => true,
         (Pattern::AnySource { comm: other }, Pattern::AnySource { comm }) => comm == other,
-        (Pattern::Initialisation, Pattern::Initialisation) => true,
+        (
+            Pattern::Initialisation {
+                sends: its,
+                comm: other,
+                peer: whom,
+                tag: label,
+                bytes: many,
+            },
+            Pattern::Initialisation {
+                sends,
+                comm,
+                peer,
+                tag,
+                bytes,
+            },
+        ) => {
+            is_same_mode(sends, its)
+                && (comm == other && peer == whom && tag == label && bytes == many)
+        }
         (Pattern::PollOfCuts, Pattern::PollOfCuts) => true,
         (Pattern::BySender { link: other }, Pattern::BySender { link }) => link == other,
         (Pattern::ByReceiver { link: other }, Pattern::ByReceiver { link }) => link == other,
         _ => false,
     }
+}
+
+/// The bytes of a transfer in all.
+fn total(parts: u8, size: u8) -> u32
+    ensures { result ≡ parts * size }
+{
+    u32::from(parts) * u32::from(size)
 }
 
 /// Whether the call makes a post: a send or a receive.
@@ -120,6 +163,53 @@ fn brings_nothing(request: &Request, other: u8, of_sends: bool) -> bool
     match request {
         Request::Send { dest, .. } => *dest != other,
         Request::Recv { .. } => !of_sends,
+        _ => false,
+    }
+}
+
+/// Whether the call initialises a side of a transfer.
+fn is_initialisation(request: &Request) -> bool
+    ensures { IsTrue result → IsInitialisation request.now }
+{
+    matches!(request, Request::Init { .. })
+}
+
+/// Whether one of two initialisations sends and the other receives, and each names the other's rank.
+fn are_ends(rank: u8, sends: bool, peer: u8, other: u8, gives: bool, whom: u8) -> bool
+    ensures ends { IsTrue result → AreEnds rank sends peer other gives whom }
+    ensures apart { result ≡ false → AreEnds rank sends peer other gives whom → ⊥ }
+{
+    !is_same_mode(sends, gives) && peer == other && whom == rank
+}
+
+/// Whether an initialisation may go before what is asked by this pattern of another rank. A sender's makes known how its
+/// transfer is cut, and one that takes links of the same two ranks may take the same link, unless both begin one transfer.
+fn may_begin_kept(rank: u8, request: &Request, other: &AskedBy) -> bool
+    ensures { IsTrue result → InitMayPassKept rank request.now other.now }
+{
+    match (request, other.pattern) {
+        (Request::Init { sending, .. }, Pattern::PollOfCuts) => !*sending,
+        (
+            Request::Init {
+                sending,
+                comm,
+                peer,
+                tag,
+                parts,
+                size,
+            },
+            Pattern::Initialisation {
+                sends: gives,
+                comm: its,
+                peer: whom,
+                tag: label,
+                bytes,
+            },
+        ) => {
+            let is_one = *comm == its && *tag == label && total(*parts, *size) == bytes;
+            is_one || !are_ends(rank, *sending, *peer, other.rank, gives, whom)
+        }
+        (Request::Init { .. }, _) => true,
         _ => false,
     }
 }
@@ -262,7 +352,23 @@ impl Patterns {
                 self.has(rank, Pattern::Claim) && self.allow_source(rank, *comm, *source)
             }
             Request::Claimed { .. } => self.has(rank, Pattern::Claim),
-            Request::Init { .. } => self.has(rank, Pattern::Initialisation),
+            Request::Init {
+                sending,
+                comm,
+                peer,
+                tag,
+                parts,
+                size,
+            } => {
+                let wanted = Pattern::Initialisation {
+                    sends: *sending,
+                    comm: *comm,
+                    peer: *peer,
+                    tag: *tag,
+                    bytes: total(*parts, *size),
+                };
+                self.has(rank, wanted)
+            }
             Request::Cut { .. } => self.allow_poll_of_cuts(rank, waits),
         }
     }
@@ -314,13 +420,13 @@ impl Patterns {
             Pattern::PollOfSends => brings_nothing(request, other.rank, true),
             Pattern::Claim => false,
             Pattern::AnySource { .. } => true,
-            Pattern::Initialisation | Pattern::PollOfCuts => true,
+            Pattern::Initialisation { .. } | Pattern::PollOfCuts => true,
             Pattern::BySender { .. } | Pattern::ByReceiver { .. } => true,
         }
     }
 
     /// Whether a send or a receive of the rank may go before whatever the other ranks may ask.
-    pub(crate) fn may_pass(&self, rank: u8, request: &Request) -> bool
+    fn may_pass(&self, rank: u8, request: &Request) -> bool
         ensures post { IsTrue result → IsPosting request.now }
         ensures pass { IsTrue result → (s : ℕ) (p : Asked) → s ≢ rank → IsAllowed (patterns_of self.now.kept.items) s p
             → MayPass (wild_of self.now.kept.items) rank request.now s p }
@@ -334,6 +440,30 @@ impl Patterns {
             }
         }
         true
+    }
+
+    /// Whether an initialisation of the rank may go before whatever the other ranks may ask.
+    fn may_initialise(&self, rank: u8, request: &Request) -> bool
+        ensures initialises { IsTrue result → IsInitialisation request.now }
+        ensures pass { IsTrue result → (s : ℕ) (p : Asked) → s ≢ rank → IsAllowed (patterns_of self.now.kept.items) s p
+            → InitMayPass rank request.now s p }
+    {
+        if !is_initialisation(request) {
+            return false;
+        }
+        for other in self.kept.as_slice() {
+            if other.rank != rank && !may_begin_kept(rank, request, other) {
+                return false;
+            }
+        }
+        true
+    }
+
+    /// Whether the call is a send, a receive or an initialisation that nobody contests.
+    pub(crate) fn is_uncontested(&self, rank: u8, request: &Request) -> bool
+        ensures { IsTrue result → IsUncontested (search_of self.now.kept.items) rank request.now }
+    {
+        self.may_pass(rank, request) || self.may_initialise(rank, request)
     }
 
     /// Whether a turn of the rank at a box may go before whatever the other ranks may ask: none of them is on the same side of
@@ -492,8 +622,22 @@ impl Patterns {
                 self.keep(rank, Pattern::Claim)?;
                 Ok(true)
             }
-            Request::Init { .. } => {
-                self.keep(rank, Pattern::Initialisation)?;
+            Request::Init {
+                sending,
+                comm,
+                peer,
+                tag,
+                parts,
+                size,
+            } => {
+                let pattern = Pattern::Initialisation {
+                    sends: *sending,
+                    comm: *comm,
+                    peer: *peer,
+                    tag: *tag,
+                    bytes: total(*parts, *size),
+                };
+                self.keep(rank, pattern)?;
                 Ok(true)
             }
             Request::Cut { .. } => {

@@ -11,6 +11,7 @@ use cl_state::{Ask, RankState};
 use cl_trace::Bare;
 use mp_types::Request;
 use rv_hart::Mode;
+use rv_image_types::RANKS_MAX;
 use std::alloc::Global;
 
 /// The turn of a rank that makes this call, if nothing is there.
@@ -95,7 +96,7 @@ fn poll_once(alloc: Global, standing: &mut Standing, rank: u8) -> Result<bool, M
 pub(crate) fn poll_all(alloc: Global, standing: &mut Standing) -> Result<bool, MoveFault>
     ensures { IfOk result (GoesInVain standing.old standing.new) }
 {
-    for rank in 0..8u8 {
+    for rank in 0..RANKS_MAX {
         if !poll_once(alloc, standing, rank)? {
             return Ok(false);
         }

@@ -14,7 +14,7 @@ use cl_state::Ask;
 use cl_trace::Bare;
 use mp_alike::WholeHub;
 use mp_types::Request;
-use rv_image_types::Image;
+use rv_image_types::{Image, RANKS_MAX};
 use std::alloc::{AllocError, Global};
 
 /// Where a search stands: a cluster, how many turns each of its ranks has had, and the turns that led there from where the
@@ -196,7 +196,7 @@ impl Standing {
         ensures { OnOk result (GoesAhead order.now self.old self.new) }
     {
         let mut long = None;
-        for rank in 0..8u8 {
+        for rank in 0..RANKS_MAX {
             let fewer = self.go_ahead(rank, order, most)?;
             if !fewer && long.is_none() {
                 long = Some(rank);

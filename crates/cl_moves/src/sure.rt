@@ -13,6 +13,7 @@ use cl_machine::{KindRef, Step};
 use cl_replay::ClusterState;
 use cl_state::{Ask, RankState};
 use mp_types::{Reply, Request};
+use rv_image_types::RANKS_MAX;
 use std::alloc::Global;
 
 /// How often each rank makes such calls at once: one that looks at a message for ever would make no last one.
@@ -133,7 +134,7 @@ impl Standing {
         ensures { OnOk result (GoesSurely order.now self.old self.new) }
     {
         let mut went = false;
-        for rank in 0..8u8 {
+        for rank in 0..RANKS_MAX {
             if self.take_sure(alloc, rank, order, most)? {
                 went = true;
             }

@@ -44,15 +44,16 @@ use Rattle.cl_first_laws.proofs.Below.{likeness_law}
 use Rattle.cl_first_laws.specs.Laws.{Turn}
 use Rattle.cl_first_laws.proofs.Exchanges.{Called, call_of}
 use Rattle.cl_schedule_laws.specs.Machines.{IsExchanged, IsMachine, Ranks, Takes}
-use Rattle.cl_reduction_laws.specs.Patterns.{IsAllowed, MayMeet, MayPass, Pattern, pattern_of, pattern_of_ask, pattern_of_request}
-use Rattle.cl_reduction_laws.specs.Clusters.{AreSure, CanGo, FindsBox, Found, GoesFirst, IsAtBox, IsReadyPoll, IsStill, IsWithin, Search, State, alone as busy, awake_cluster, cluster_machine, collects, lone, meets, posts, posts_of, weight_of}
+use Rattle.cl_reduction_laws.specs.Patterns.{InitMayPass, IsAllowed, IsInitialisation, MayMeet, MayPass, Pattern, pattern_of, pattern_of_ask, pattern_of_request}
+use Rattle.cl_reduction_laws.specs.Clusters.{AreSure, CanGo, FindsBox, Found, GoesFirst, IsAtBox, IsReadyPoll, IsStill, IsWithin, Search, State, alone as busy, awake_cluster, cluster_machine, collects, initialises, lone, meets, posts, posts_of, weight_of}
 use Rattle.cl_reduction_laws.specs.Laws.{ClusterMachineLaw}
 use Rattle.cl_reduction_laws.proofs.Awake.{map_set, mapped}
 use Rattle.cl_reduction_laws.proofs.AtBoxes.{AtBox, Leaves, freed, miss_leaves, misses, missed_awake, readied, took}
 use Rattle.cl_reduction_laws.proofs.Good.{Gone, IsMade, IsOnly, IsOwn, alone, at_start, called, goes_of, gone, good_after, grows_by, made_within, met, plans_of}
 use Rattle.cl_reduction_laws.proofs.Machine.{IsSame, each_itself, Taken, same_alike, taken, turn_by}
 use Rattle.cl_reduction_laws.proofs.Follows.{follows, weight_too, within_too}
-use Rattle.cl_reduction_laws.proofs.First.{IsTold, is_there, is_told, no_collect, no_finish, no_probe, no_several, not_yet, of_ready, of_refused, of_transfers, of_vain, refused}
+use Rattle.cl_reduction_laws.proofs.First.{IsTold, is_not_yet, is_there, is_told, no_collect, no_finish, no_probe, no_several, not_yet, of_cut, of_other, of_ready, of_refused, of_transfers, of_two, of_vain, refused}
+use Rattle.cl_reduction_laws.proofs.Transfers.{IsOther, posts_other}
 use Rattle.cl_reduction_laws.proofs.Meeting.{IsFilling, box_live, filling_visits, finds_at_box, finds_kept, holds_or_empty, kind_of, only_beside, other_box, turn_found, visit_kind}
 use Rattle.cl_reduction_laws.proofs.Places.{IsBeside, IsVisit, beside, in_place, number_of, put_other}
 use Rattle.cl_reduction_laws.proofs.Exchanged.{by_exchange, by_own, by_posts, by_sure, kept_rank, no_miss, past_beside, past_other, past_place, swapped_sure}
@@ -247,22 +248,54 @@ module _ (search : Search) where
         (record { cluster = b.cluster; had = one_more none_had s }, goes_of hart s a.cluster b.cluster none_had one, refl)
         (omega (arith, high, room)) sure.rank (still ∙ sure.there))
 
+    abbrev h : HubView
+    h = hub_of a.cluster.journal
+
+    abbrev w : Bool
+    w = waits_on (doing t.rank.site (part_of t.rank (hart s)))
+
+    away : r ≢ s
+    away e = apart (sym e)
+
+    few : length h.board.lines < 65536
+    few = omega (arith, room)
+
+    allowed : (p : Request) → asked t.rank (hart s) ≡ Ask.Hub p → IsAllowed search.patterns s (pattern_of_request w p)
+    allowed p also = subst (λ u. IsAllowed search.patterns s (pattern_of_ask w u)) also (within t.rank t.there).0
+
+    -- a call that stays sure
+    module _ (q : Request) (asks : asked sure.rank (hart r) ≡ Ask.Hub q) (kept : AreSure search b.cluster rs) where
+      exchanges : (p : Request) → asked t.rank (hart s) ≡ Ask.Hub p → MayExchange search.wild h r q s p → Result
+      exchanges p also v =
+          inr (
+            kept,
+            swaps (λ c found two finds.
+                by_exchange search r s a b c apart sure.rank t.rank sure.there t.there sure.within within room one two found finds
+                q asks p also v),
+          )
+
+      past_own : IsOwn (asked t.rank (hart s)) → Result
+      past_own own =
+          inr (
+            kept,
+            swaps (λ c found two finds.
+                by_own search r s a b c apart sure.rank t.rank sure.there t.there sure.within within room one two found finds own),
+          )
+
+      past_box : IsAtBox (asked t.rank (hart s)) → Result
+      past_box at =
+          inr (
+            kept,
+            swaps (λ c found two finds.
+                past_place search r s a b c apart sure.rank t.rank sure.there t.there sure.within within room one two found finds
+                (visit_kind s (hart s) a.cluster b.cluster t.rank t.there at one)
+                (only_beside r (hart r) b.cluster c.cluster sure.rank (still ∙ sure.there) (subst IsOnly (sym asks) tt) two)),
+          )
+
     module _ (q : Request) (asks : asked sure.rank (hart r) ≡ Ask.Hub q) (post : IsPosting q)
         (pass : (s : ℕ) (p : Pattern) → s ≢ r → IsAllowed search.patterns s p → MayPass search.wild r q s p) where
-      kept : AreSure search b.cluster rs
-      kept = stays (posts q asks post pass)
-
-      abbrev h : HubView
-      h = hub_of a.cluster.journal
-
-      abbrev w : Bool
-      w = waits_on (doing t.rank.site (part_of t.rank (hart s)))
-
-      away : r ≢ s
-      away e = apart (sym e)
-
-      few : length h.board.lines < 65536
-      few = omega (arith, room)
+      posts_still : AreSure search b.cluster rs
+      posts_still = stays (posts q asks post pass)
 
       laid_then : Laid (outcome h r q).1
       laid_then =
@@ -273,38 +306,29 @@ module _ (search : Search) where
           entry = record { rank = r; hart = hart r; clock = 0; stamp = 0; request = q; reply = reply.NotYet }
 
       module _ (p : Request) (also : asked t.rank (hart s) ≡ Ask.Hub p) (k : Called s (hart s) a.cluster b.cluster t.rank p) where
-        allowed : IsAllowed search.patterns s (pattern_of_request w p)
-        allowed = subst (λ u. IsAllowed search.patterns s (pattern_of_ask w u)) also (within t.rank t.there).0
-
         may : MayPass search.wild r q s (pattern_of_request w p)
-        may = pass s (pattern_of_request w p) apart allowed
+        may = pass s (pattern_of_request w p) apart (allowed p also)
 
         posting : IsPosting p → NoRace search.wild q p → NoSync r q s p → Result
         posting is race sync =
             inr (
-              kept,
+              posts_still,
               swaps (λ c found two finds.
                   by_posts search r s a b c apart sure.rank t.rank sure.there t.there sure.within within room one two found finds
-                  q asks post p also is race sync),
+                  q asks p also post is race sync),
             )
 
-        exchanges : MayExchange search.wild h r q s p → Result
-        exchanges v =
-            inr (
-              kept,
-              swaps (λ c found two finds.
-                  by_exchange search r s a b c apart sure.rank t.rank sure.there t.there sure.within within room one two found finds
-                  q asks post p also v),
-            )
+        exchanged : MayExchange search.wild h r q s p → Result
+        exchanged v = exchanges q asks posts_still p also v
 
         -- where nothing is there it waits on, and is left as it was; or the call of r brings it nothing
         looks : (w ≡ true) ⊎ BringsNothing q s p → IsLook p → IsTold h s p → Result
         looks (inl on) is (not_yet none) =
             inl (same_alike search.wild a.cluster b.cluster (a.good).boxes
             (vain s a.cluster b.cluster t.rank p t.there on also k none))
-        looks (inr nothing) is (not_yet none) = exchanges (of_vain search.wild a.cluster r s q p away few post is nothing none)
-        looks can is (is_there ready) = exchanges (of_ready search.wild a.cluster r s q p away few laid_then ready)
-        looks can is (refused bad) = exchanges (of_refused search.wild a.cluster r s q p away few post bad)
+        looks (inr nothing) is (not_yet none) = exchanged (of_vain search.wild a.cluster r s q p away few post is nothing none)
+        looks can is (is_there ready) = exchanged (of_ready search.wild a.cluster r s q p away few laid_then ready)
+        looks can is (refused bad) = exchanged (of_refused search.wild a.cluster r s q p away few post bad)
 
       -- a call that goes on where nothing is there may be passed by what brings it nothing
       look_by : (p : Request) (also : asked t.rank (hart s) ≡ Ask.Hub p) (k : Called s (hart s) a.cluster b.cluster t.rank p)
@@ -347,27 +371,82 @@ module _ (search : Search) where
       call_by (request.Claim comm source tag) also k = absurd (may (request.Claim comm source tag) also k)
       call_by (request.Claimed now n) also k = absurd (may (request.Claimed now n) also k)
       call_by (request.Init sends comm peer tag parts size) also k =
-          exchanges (request.Init sends comm peer tag parts size) also k
-          (of_transfers search.wild a.cluster r s q (request.Init sends comm peer tag parts size) away few post tt)
+          exchanged (request.Init sends comm peer tag parts size) also k
+          (of_transfers search.wild a.cluster r s q (request.Init sends comm peer tag parts size) away few (posts_other q post) tt)
       call_by (request.Cut link) also k =
-          exchanges (request.Cut link) also k (of_transfers search.wild a.cluster r s q (request.Cut link) away few post tt)
+          exchanged (request.Cut link) also k
+          (of_transfers search.wild a.cluster r s q (request.Cut link) away few (posts_other q post) tt)
 
       by_posting : Gone s (hart s) a.cluster b.cluster t.rank → Result
-      by_posting (alone stamp own ranks journal boxes) =
-          inr (
-            kept,
-            swaps (λ c found two finds.
-                by_own search r s a b c apart sure.rank t.rank sure.there t.there sure.within within room one two found finds own),
-          )
+      by_posting (alone stamp own ranks journal boxes) = past_own q asks posts_still own
       by_posting (called p also k) = call_by p also k
-      by_posting (met at box) =
-          inr (
-            kept,
-            swaps (λ c found two finds.
-                past_place search r s a b c apart sure.rank t.rank sure.there t.there sure.within within room one two found finds
-                (visit_kind s (hart s) a.cluster b.cluster t.rank t.there at one)
-                (only_beside r (hart r) b.cluster c.cluster sure.rank (still ∙ sure.there) (subst IsOnly (sym asks) tt) two)),
-          )
+      by_posting (met at box) = past_box q asks posts_still at
+
+    module _ (sends : Bool) (comm peer tag parts size : ℕ)
+        (asks : asked sure.rank (hart r) ≡ Ask.Hub (request.Init sends comm peer tag parts size))
+        (pass : (s : ℕ) (p : Pattern) → s ≢ r → IsAllowed search.patterns s p
+        → InitMayPass r (request.Init sends comm peer tag parts size) s p) where
+      abbrev mine : Request
+      mine = request.Init sends comm peer tag parts size
+
+      initialises_still : AreSure search b.cluster rs
+      initialises_still = stays (initialises mine asks tt pass)
+
+      may_begin : (p : Request) → asked t.rank (hart s) ≡ Ask.Hub p → InitMayPass r mine s (pattern_of_request w p)
+      may_begin p also = pass s (pattern_of_request w p) apart (allowed p also)
+
+      -- where the cut isn't known a rank waits on, and is left as it was; or a receiver's side doesn't make it known
+      cut_by : (link : ℕ) → asked t.rank (hart s) ≡ Ask.Hub (request.Cut link)
+          → Called s (hart s) a.cluster b.cluster t.rank (request.Cut link)
+          → Result
+      cut_by link also k = go (is_not_yet (outcome h s (request.Cut link)).0) w refl
+        where
+          by : (sends ≡ false) ⊎ ((outcome h s (request.Cut link)).0 ≢ reply.NotYet) → Result
+          by why =
+              exchanges mine asks initialises_still (request.Cut link) also
+              (of_cut search.wild a.cluster r s sends comm peer tag parts size link why)
+
+          go : ((outcome h s (request.Cut link)).0 ≡ reply.NotYet) ⊎ ((outcome h s (request.Cut link)).0 ≢ reply.NotYet)
+              → (v : Bool) → w ≡ v → Result
+          go (inr known) v is = by (inr known)
+          go (inl none) true on =
+              inl (same_alike search.wild a.cluster b.cluster (a.good).boxes
+              (vain s a.cluster b.cluster t.rank (request.Cut link) t.there on also k none))
+          go (inl none) false off =
+              by (inl (subst (λ v. InitMayPass r mine s (pattern_of_request v (request.Cut link))) off
+              (may_begin (request.Cut link) also)))
+
+      by_other : (p : Request) → asked t.rank (hart s) ≡ Ask.Hub p → IsOther p → Result
+      by_other p also is =
+          exchanges mine asks initialises_still p also (of_other search.wild a.cluster r s mine p away few tt is)
+
+      init_by : (p : Request) → asked t.rank (hart s) ≡ Ask.Hub p → Called s (hart s) a.cluster b.cluster t.rank p → Result
+      init_by (request.Init gives other whom label cuts each) also k =
+          exchanges mine asks initialises_still (request.Init gives other whom label cuts each) also
+          (of_two search.wild a.cluster r s sends comm peer tag parts size gives other whom label cuts each away
+          (may_begin (request.Init gives other whom label cuts each) also))
+      init_by (request.Cut link) also k = cut_by link also k
+      init_by (request.Send sync other dest label bytes) also k = by_other (request.Send sync other dest label bytes) also tt
+      init_by (request.Recv now other source label) also k = by_other (request.Recv now other source label) also tt
+      init_by (request.Collect n) also k = by_other (request.Collect n) also tt
+      init_by (request.Finished n) also k = by_other (request.Finished n) also tt
+      init_by (request.All ns) also k = by_other (request.All ns) also tt
+      init_by (request.Probe other source label) also k = by_other (request.Probe other source label) also tt
+      init_by (request.Claim other source label) also k = by_other (request.Claim other source label) also tt
+      init_by (request.Claimed now n) also k = by_other (request.Claimed now n) also tt
+
+      by_beginning : Gone s (hart s) a.cluster b.cluster t.rank → Result
+      by_beginning (alone stamp own ranks journal boxes) = past_own mine asks initialises_still own
+      by_beginning (called p also k) = init_by p also k
+      by_beginning (met at box) = past_box mine asks initialises_still at
+
+    by_initialising : (q : Request) → asked sure.rank (hart r) ≡ Ask.Hub q → IsInitialisation q
+        → ((s : ℕ) (p : Pattern) → s ≢ r → IsAllowed search.patterns s p → InitMayPass r q s p)
+        → Gone s (hart s) a.cluster b.cluster t.rank
+        → Result
+    by_initialising (request.Init sends comm peer tag parts size) asks is pass =
+        by_beginning sends comm peer tag parts size asks pass
+    by_initialising _ asks is pass = absurd is
 
     -- a turn of a rank that can't go on leaves what is alike
     still_turn : IsStill a.cluster s t.rank (hart s) → Gone s (hart s) a.cluster b.cluster t.rank → IsSame a.cluster b.cluster
@@ -437,9 +516,6 @@ module _ (search : Search) where
                 visit (visits c two)
                 (λ same. two_boxes (same ∙ ap number_of (asks_mine c two)))),
           )
-        where
-          w : Bool
-          w = waits_on (doing t.rank.site (part_of t.rank (hart s)))
 
     by_first : GoesFirst search a.cluster r sure.rank → Result
     by_first (lone can still) =
@@ -465,6 +541,8 @@ module _ (search : Search) where
         )
     by_first (posts q asks post pass) =
         by_posting q asks post pass (gone s (hart s) a.cluster b.cluster t.rank t.there made one)
+    by_first (initialises q asks is pass) =
+        by_initialising q asks is pass (gone s (hart s) a.cluster b.cluster t.rank t.there made one)
     by_first (meets finds pass) = by_meeting finds pass (kind_of one.step.kind)
 
   -- ---- a poll of what is there
@@ -558,6 +636,7 @@ module _ (search : Search) where
       go (busy is) = one (busy_alive (asked sure.rank (hart sure.one)) is) (busy_only (asked sure.rank (hart sure.one)) is)
       go (collects q asks ready) = hub q asks
       go (posts q asks post pass) = hub q asks
+      go (initialises q asks is pass) = hub q asks
       go (lone can others) = one (can_live (asked sure.rank (hart sure.one)) can) (can_only (asked sure.rank (hart sure.one)) can)
       go (meets finds pass) =
           let at = finds_at_box a.cluster _ (asked sure.rank (hart sure.one)) finds in
@@ -586,6 +665,7 @@ module _ (search : Search) where
       go (busy is) = single (busy_only (asked rank (hart r)) is)
       go (collects q asks ready) = single (subst IsOnly (sym asks) tt)
       go (posts q asks post pass) = single (subst IsOnly (sym asks) tt)
+      go (initialises q asks is pass) = single (subst IsOnly (sym asks) tt)
       go (lone can others) = single (can_only (asked rank (hart r)) can)
       go (meets finds pass) =
           let m = miss_leaves r (hart r) a.cluster b.cluster rank there turn missed in

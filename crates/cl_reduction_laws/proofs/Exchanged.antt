@@ -241,9 +241,9 @@ module _ (search : Search) (r s : ℕ) (a b c : State search) (apart : s ≢ r) 
       (alone_kind s (search.harts s) a.cluster b.cluster x here own one) one.leads two.leads in
       by_steps f.0 f.1 f.2
 
-  -- ---- where r posts
+  -- ---- where r asks the hub
 
-  module _ (q : Request) (asks : asked rank (search.harts r) ≡ Ask.Hub q) (post : IsPosting q) where
+  module _ (q : Request) (asks : asked rank (search.harts r) ≡ Ask.Hub q) where
     module _ (p : Request) (also : asked x (search.harts s) ≡ Ask.Hub p) where
       abbrev calm : IsCalm search.wild a.cluster
       calm = record {
@@ -294,8 +294,8 @@ module _ (search : Search) (r s : ℕ) (a b c : State search) (apart : s ≢ r) 
       polls_light t k f =
           ap (λ o. weight_of o (search.harts t)) f.there ∙ ap weight_in f.waits
 
-      pub by_posts : IsPosting p → NoRace search.wild q p → NoSync r q s p → Exchange
-      by_posts posts_too race sync =
+      pub by_posts : IsPosting q → IsPosting p → NoRace search.wild q p → NoSync r q s p → Exchange
+      by_posts post posts_too race sync =
           let k = exchange_law search.wild r (search.harts r) s (search.harts s) a.cluster b.cluster c.cluster x rank q p calm
           away there asks post here also posts_too race sync one two in
           let first : State search = record { cluster = k.first; good = good_first search r s a b c apart rank x there here mine theirs one two k.first k.goes } in

@@ -1,5 +1,5 @@
 -- What may go first goes before a turn of another rank.
-use Rattle.std.proofs.Common.{◌≡◌, ◌∙◌, ℕ, zero, suc, ◌<◌, refl, sym, ap, subst, Bool, true, false, List, length, Option, Some, None}
+use Rattle.std.proofs.Common.{◌≡◌, ◌∙◌, ℕ, zero, suc, ◌*◌, ◌<◌, ◌⊎◌, inl, inr, refl, sym, ap, subst, Bool, true, false, List, length, Option, Some, None}
 use Rattle.std.specs.Prelude.{◌≢◌, ◌&&◌, cond}
 use Rattle.std.specs.List.{list_all}
 use Rattle.rv_hart.specs.declared.state.Mode.{Mode}
@@ -13,10 +13,12 @@ use Rattle.mp_types.specs.declared.replies.Reply.TheVariants as reply
 use Rattle.mp_types.specs.declared.requests.Request.{Request}
 use Rattle.mp_types.specs.declared.requests.Request.TheVariants as request
 use Rattle.mp_match.specs.Board.{Board, collect, is_send_of, line_of}
-use Rattle.mp_hub.specs.Hub.{HubView, all_collected, all_got, are_distinct, got_or, is_complete, is_known, is_ready, may_collect, outcome, seen}
+use Rattle.mp_transfers.specs.declared.sides.Side.{Side}
+use Rattle.mp_hub.specs.Hub.{HubView, all_collected, all_got, are_distinct, got_or, is_complete, is_known, is_ready, may_collect, outcome, seen, with_sides}
 use Rattle.mp_wait_laws.proofs.Fresh.{Laid}
 use Rattle.mp_wait_laws.proofs.Waits.{laid_after}
 use Rattle.mp_alike_laws.specs.Renaming.{no_renaming}
+use Rattle.mp_alike_laws.proofs.Sides.{SameSides}
 use Rattle.mp_source_laws.specs.Alike.{AlikeHubs, Wild}
 use Rattle.mp_source_laws.proofs.Likeness.{itself as hub_itself}
 use Rattle.mp_clash_laws.specs.Exchanges.{BringsNothing, IsLook, IsPosting, IsRefused, MayExchange, behind, reply_by}
@@ -34,7 +36,9 @@ use Rattle.cl_order_laws.specs.Alike.{hub_of}
 use Rattle.cl_order_laws.specs.SureAsks.{IsReady}
 use Rattle.cl_order_laws.proofs.Ready.{exchanged, ready_from}
 use Rattle.cl_reduction_laws.specs.Clusters.{weight_in}
-use Rattle.cl_reduction_laws.proofs.Transfers.{IsTransfer, both_ways}
+use Rattle.cl_reduction_laws.specs.Patterns.{AreEnds}
+use Rattle.cl_reduction_laws.proofs.Initialisations.{both_begin}
+use Rattle.cl_reduction_laws.proofs.Transfers.{IsOther, IsTransfer, asks_cut, both_ways, cut_kept}
 
 -- ---- a hart that polls asks for its post
 
@@ -135,17 +139,39 @@ reply_fixed (reply.AllGot gots) = refl
 reply_fixed (reply.Link link) = refl
 reply_fixed (reply.Cut parts size) = refl
 
--- the replies are the same, and so is the hub
+-- the replies are the same, and the hubs are alike
+exchange_alike : (wild : Wild) (h : HubView) (r : ℕ) (q : Request) (s : ℕ) (p : Request)
+    → (outcome h r q).0 ≡ (outcome (outcome h s p).1 r q).0
+    → (outcome (outcome h r q).1 s p).0 ≡ (outcome h s p).0
+    → AlikeHubs wild no_renaming (behind h s p r q) (behind h r q s p)
+    → MayExchange wild h r q s p
+exchange_alike wild h r q s p mine theirs alike = record {
+  names = no_renaming;
+  old = λ place below. refl;
+  told = record { mine = mine ∙ sym (reply_fixed _); theirs = theirs ∙ sym (reply_fixed _) };
+  hubs = alike;
+}
+
+-- or the hub is the same
 exchange_of : (wild : Wild) (h : HubView) (r : ℕ) (q : Request) (s : ℕ) (p : Request)
     → (outcome h r q).0 ≡ (outcome (outcome h s p).1 r q).0
     → (outcome (outcome h r q).1 s p).0 ≡ (outcome h s p).0
     → behind h s p r q ≡ behind h r q s p
     → MayExchange wild h r q s p
-exchange_of wild h r q s p mine theirs hubs = record {
-  names = no_renaming;
-  old = λ place below. refl;
-  told = record { mine = mine ∙ sym (reply_fixed _); theirs = theirs ∙ sym (reply_fixed _) };
-  hubs = subst (λ k. AlikeHubs wild no_renaming (behind h s p r q) k) hubs (hub_itself (behind h s p r q));
+exchange_of wild h r q s p mine theirs hubs =
+    exchange_alike wild h r q s p mine theirs
+    (subst (λ k. AlikeHubs wild no_renaming (behind h s p r q) k) hubs (hub_itself (behind h s p r q)))
+
+-- hubs are alike that differ in the order of sides alone
+other_order : (wild : Wild) (h : HubView) (ss ts : List Side) → SameSides ss ts
+    → AlikeHubs wild no_renaming (with_sides h ss) (with_sides h ts)
+other_order wild h ss ts same = record {
+  links = refl;
+  board = (hub_itself {wild = wild} h).board;
+  claims = refl;
+  sides = same.sides;
+  reserved = same.reserved;
+  senders = same.senders;
 }
 
 module _ (wild : Wild) (c : Cluster) (r s : ℕ) (q p : Request) (apart : r ≢ s) (few : length (hub_of c.journal).board.lines < 65536) where
@@ -162,11 +188,16 @@ module _ (wild : Wild) (c : Cluster) (r s : ℕ) (q p : Request) (apart : r ≢ 
       exchange_of wild h r q s p (sym (ap (λ (o : Reply × HubView). o.0) k.call)) k.reply
       (ap (λ (o : Reply × HubView). o.1) k.call)
 
-  -- partitioned transfers have nothing to do with posts
-  pub of_transfers : IsPosting q → IsTransfer p → MayExchange wild h r q s p
-  of_transfers posts is =
-      let k = both_ways h r s q p posts is in
+  -- partitioned transfers have nothing to do with all else, whichever is first
+  pub of_transfers : IsOther q → IsTransfer p → MayExchange wild h r q s p
+  of_transfers other is =
+      let k = both_ways h r s q p other is in
       exchange_of wild h r q s p k.mine k.theirs k.hubs
+
+  pub of_other : IsTransfer q → IsOther p → MayExchange wild h r q s p
+  of_other is other =
+      let k = both_ways h s r p q other is in
+      exchange_of wild h r q s p (sym k.theirs) (sym k.mine) (sym k.hubs)
 
   pub of_refused : IsPosting q → IsRefused h s p → MayExchange wild h r q s p
   of_refused posts is =
@@ -182,6 +213,41 @@ module _ (wild : Wild) (c : Cluster) (r s : ℕ) (q p : Request) (apart : r ≢ 
       exchange_of wild h r q s p (ap (λ (o : Reply × HubView). (outcome o.1 r q).0) (sym k.0))
       (ap (λ (o : Reply × HubView). o.0) k.1 ∙ sym (ap (λ (o : Reply × HubView). o.0) k.0))
       (ap (λ (o : Reply × HubView). (outcome o.1 r q).1) k.0 ∙ sym (ap (λ (o : Reply × HubView). o.1) k.1))
+
+-- ---- initialisations
+
+pub is_not_yet : (o : Reply) → (o ≡ reply.NotYet) ⊎ (o ≢ reply.NotYet)
+is_not_yet reply.NotYet = inl refl
+is_not_yet _ = inr (λ e. absurd (cc))
+
+module _ (wild : Wild) (c : Cluster) (r s : ℕ) (sends : Bool) (comm peer tag parts size : ℕ) where
+  abbrev hub : HubView
+  hub = hub_of c.journal
+
+  abbrev mine : Request
+  mine = request.Init sends comm peer tag parts size
+
+  -- how a sender cut its transfer isn't made known by a receiver, and stays known
+  pub of_cut : (link : ℕ) → (sends ≡ false) ⊎ ((outcome hub s (request.Cut link)).0 ≢ reply.NotYet)
+      → MayExchange wild hub r mine s (request.Cut link)
+  of_cut link why =
+      let left = asks_cut hub s link in
+      exchange_of wild hub r mine s (request.Cut link) (ap (λ k. (outcome k r mine).0) (sym left))
+      (cut_kept hub r sends comm peer tag parts size s link why)
+      (ap (λ k. (outcome k r mine).1) left ∙ sym (asks_cut (outcome hub r mine).1 s link))
+
+  -- two that take the links of two pairs of ranks, or begin the two sides of one transfer
+  pub of_two : (gives : Bool) (other whom label cuts each : ℕ) → r ≢ s
+      → (AreEnds r sends peer s gives whom → (comm ≡ other) × (tag ≡ label) × (parts * size ≡ cuts * each))
+      → MayExchange wild hub r mine s (request.Init gives other whom label cuts each)
+  of_two gives other whom label cuts each apart may =
+      let its : Request = request.Init gives other whom label cuts each in
+      let k = both_begin c.journal.links (calls_of c.journal.entries) r s apart sends comm peer tag parts size gives other
+      whom label cuts each may in
+      exchange_alike wild hub r mine s its k.mine_told k.its_told
+      (subst (λ z. AlikeHubs wild no_renaming z (behind hub r mine s its)) (sym k.its_first)
+      (subst (λ z. AlikeHubs wild no_renaming (with_sides hub k.sides) z) (sym k.mine_first)
+      (other_order wild hub k.sides k.others k.same)))
 
 -- ---- polls that a send or a receive brings nothing, of the very calls
 

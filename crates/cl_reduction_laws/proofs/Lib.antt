@@ -2,6 +2,7 @@ pub mod Awake
 pub mod AtBoxes
 pub mod Places
 pub mod Meeting
+pub mod Initialisations
 pub mod Transfers
 pub mod Naming
 pub mod Good

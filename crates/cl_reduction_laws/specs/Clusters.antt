@@ -26,7 +26,7 @@ use Rattle.cl_order_laws.specs.SureAsks.{IsBusy, IsReady}
 use Rattle.cl_first_laws.specs.Below.{AreAlike, AskWithin}
 use Rattle.cl_first_laws.specs.Laws.{Turn}
 use Rattle.cl_schedule_laws.specs.Machines.{Machine, Ranks}
-use Rattle.cl_reduction_laws.specs.Patterns.{IsAllowed, MayMeet, MayPass, Pattern, Patterns, pattern_of}
+use Rattle.cl_reduction_laws.specs.Patterns.{InitMayPass, IsAllowed, IsInitialisation, MayMeet, MayPass, Pattern, Patterns, pattern_of}
 
 -- ---- what a search is told
 
@@ -116,14 +116,17 @@ CanGo Ask.Local = Unit {0}
 CanGo (Ask.Hub q) = Unit {0}
 CanGo _ = ⊥
 
--- needs only its rank; or asks the hub for what is there and stays; or posts what may pass whatever other ranks may ask;
--- or finds a box of a link on whose side no other rank may be; or can go on where no other rank can
+-- needs only its rank; or asks the hub for what is there and stays; or posts or initialises what may pass whatever other ranks
+-- may ask; or finds a box of a link on whose side no other rank may be; or can go on where no other rank can
 pub data GoesFirst (search : Search) (c : Cluster) (r : ℕ) (rank : Rank) : Type 0 where
   alone : IsBusy (asked rank (search.harts r)) → GoesFirst search c r rank
   collects : (q : Request) → asked rank (search.harts r) ≡ Ask.Hub q → IsReady q (reply_in c.journal r q)
       → GoesFirst search c r rank
   posts : (q : Request) → asked rank (search.harts r) ≡ Ask.Hub q → IsPosting q
       → ((s : ℕ) (p : Pattern) → s ≢ r → IsAllowed search.patterns s p → MayPass search.wild r q s p)
+      → GoesFirst search c r rank
+  initialises : (q : Request) → asked rank (search.harts r) ≡ Ask.Hub q → IsInitialisation q
+      → ((s : ℕ) (p : Pattern) → s ≢ r → IsAllowed search.patterns s p → InitMayPass r q s p)
       → GoesFirst search c r rank
   meets : FindsBox c (waits_on (doing rank.site (part_of rank (search.harts r)))) (asked rank (search.harts r))
       → ((s : ℕ) (p : Pattern) → s ≢ r → IsAllowed search.patterns s p → MayMeet (asked rank (search.harts r)) p)

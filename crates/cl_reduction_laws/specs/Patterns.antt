@@ -1,5 +1,5 @@
 -- What ranks ask for, as patterns without post numbers and without bytes, and which turns may pass one another.
-use Rattle.std.specs.Prelude.{ℕ, ◌≡◌, ◌≢◌, Bool, true, false, [], None, cond, nat_lt}
+use Rattle.std.specs.Prelude.{ℕ, ◌*◌, ◌≡◌, ◌≢◌, Bool, true, false, not, [], None, cond, nat_lt}
 use Rattle.mp_types.specs.declared.requests.Request.{Request}
 use Rattle.mp_types.specs.declared.requests.Request.TheVariants as request
 use Rattle.mp_source_laws.specs.Alike.{Wild}
@@ -23,8 +23,8 @@ pub data Pattern : Type 0 where
   poll_of_sends : Pattern
   -- MPROBE, IMPROBE, MRECV and IMRECV
   claim : Pattern
-  -- PSEND_INIT and PRECV_INIT
-  initialisation : Pattern
+  -- PSEND_INIT where it sends, else PRECV_INIT: in this communicator, with this peer and tag, of so many bytes in all
+  initialisation : Bool → ℕ → ℕ → ℕ → ℕ → Pattern
   -- TEST and PARRIVED that ask how a sender cut its transfer: where that isn't known the rank goes on
   poll_of_cuts : Pattern
   -- by the sender on this link: PREADY, and the question whether a partition was taken
@@ -43,7 +43,7 @@ pattern_of_request waits (request.All posts) = cond waits wait poll_of_sends
 pattern_of_request waits (request.Probe comm source tag) = cond waits wait poll
 pattern_of_request waits (request.Claim comm source tag) = claim
 pattern_of_request waits (request.Claimed now message) = claim
-pattern_of_request waits (request.Init sends comm peer tag parts size) = initialisation
+pattern_of_request waits (request.Init sends comm peer tag parts size) = initialisation sends comm peer tag (parts * size)
 pattern_of_request waits (request.Cut link) = cond waits wait poll_of_cuts
 
 -- a link has 16 boxes
@@ -91,7 +91,7 @@ MayPass wild r q s receive = NoSync r q s (request.Recv false 0 None None)
 MayPass wild r q s poll = BringsNothing q s (request.Collect 0)
 MayPass wild r q s poll_of_sends = BringsNothing q s (request.Finished 0)
 MayPass wild r q s claim = ⊥
-MayPass wild r q s initialisation = Unit {0}
+MayPass wild r q s (initialisation sends comm peer tag bytes) = Unit {0}
 MayPass wild r q s poll_of_cuts = Unit {0}
 MayPass wild r q s (by_sender link) = Unit {0}
 MayPass wild r q s (by_receiver link) = Unit {0}
@@ -105,3 +105,24 @@ MayMeet (Ask.Freed link part) (by_sender other) = link ≢ other
 MayMeet (Ask.Look link part) (by_receiver other) = link ≢ other
 MayMeet _ unlisted = ⊥
 MayMeet _ _ = Unit {0}
+
+-- PSEND_INIT or PRECV_INIT
+abbrev pub IsInitialisation : Request → Type 0
+IsInitialisation (request.Init sends comm peer tag parts size) = Unit {0}
+IsInitialisation _ = ⊥
+
+-- of two initialisations by r and s, one sends and the other receives, and each names the other's rank: so they take the
+-- links of one pair of ranks
+abbrev pub AreEnds : ℕ → Bool → ℕ → ℕ → Bool → ℕ → Type 0
+AreEnds r sends peer s gives whom = (sends ≡ not gives) × (peer ≡ s) × (whom ≡ r)
+
+-- an initialisation q of rank r may go before what rank s asks. One that sends makes known how its transfer is cut, for which a
+-- receiver may poll. Another initialisation may take the link that this one takes, unless its link joins other ranks, or both
+-- are sides of one transfer, of as many bytes: then both have one link whichever is first. All else that ranks ask has nothing
+-- to do with initialisations
+abbrev pub InitMayPass : ℕ → Request → ℕ → Pattern → Type 0
+InitMayPass r (request.Init sends comm peer tag parts size) s poll_of_cuts = sends ≡ false
+InitMayPass r (request.Init sends comm peer tag parts size) s (initialisation gives other whom label bytes) =
+    AreEnds r sends peer s gives whom → (comm ≡ other) × (tag ≡ label) × (parts * size ≡ bytes)
+InitMayPass r q s unlisted = ⊥
+InitMayPass r q s _ = Unit {0}
