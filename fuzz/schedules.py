@@ -208,6 +208,8 @@ class Schedules:
         self.is_counted = image.harts == 1
         # of ends: the texts, what is known of them, and the same with the messages left; and ranks that are stuck
         self.texts, self.known, self.left, self.companies = set(), set(), set(), set()
+        # how many ends have each text, with what each hart waits for
+        self.shared = collections.Counter()
 
     def number(self, key):
         """The number of a key: the same for equal ones."""
@@ -458,6 +460,7 @@ class Schedules:
     def once(self):
         """Searches by the patterns that are known."""
         self.texts, self.known, self.left, self.companies = set(), set(), set(), set()
+        self.shared = collections.Counter()
         first = self.first()
         before, states, stops, todo = {first.key: []}, {first.key: first}, [], collections.deque([first])
         while todo:
@@ -497,6 +500,7 @@ class Schedules:
         """Keeps what is told of an end, and what is known of it."""
         known = orders.what_is_known(state.ranks)
         self.texts.add(orders.text_of(state.ranks, self.plan))
+        self.shared[orders.whole_text(state.around(), self.plan)] += 1
         self.known.add(known)
         self.left.add((known, left(state.hub)))
 
@@ -559,13 +563,18 @@ def difference_from_told(some, told):
 
 
 def difference_in_states(image, plan, most, longest, told):
-    """How many states `explore` told of, where docs/SCHEDULES.md has other ones, or None. It may tell of more where a rank goes
-    round alone, which has states of its own then, and where it searches without this law."""
+    """How many states `explore` told of, where docs/SCHEDULES.md has other ones, or how many ends look like its outcomes, or
+    None. It may tell of more where a rank goes round alone, which has states of its own then, and where it searches without
+    this law."""
     some = Schedules(image, plan, most, longest=longest, **COUNTED)
     if not some.search() or not some.is_whole or not told.is_whole:
         return None
-    is_right = told.count == some.count or (told.count > some.count and not some.is_counted)
-    return None if is_right else f"{told.count} states, not {some.count}"
+    if told.count > some.count and not some.is_counted:
+        return None
+    return first_difference(
+        ("states", told.count, some.count),
+        ("ends of each text", told.shared(), dict(some.shared)),
+    )
 
 
 def first_difference(*rows):

@@ -1,6 +1,7 @@
 """All ends of all orders of the ranks' turns, as docs/EXPLORE.md has them: found by taking every turn of every rank
 from every state, where states count as one only if they are equal but for clocks and stamps. And what is told of them."""
 
+import collections
 import re
 
 import cluster
@@ -30,6 +31,9 @@ CLOSING = re.compile(
 )
 
 UNENDING = b"some runs go on for ever\n"
+
+# how many ends an outcome stands for
+LOOKING = re.compile(rb"(\d+) ends look like outcome (\d+)\n")
 
 
 class TooMany(Exception):
@@ -169,6 +173,8 @@ class Search:
         self.count, self.is_whole, self.is_unending = 0, True, False
         # what is told of ranks that are stuck in states that lead to no end
         self.companies = set()
+        # how many of the states that are ends have each text, with what each hart waits for
+        self.shared = collections.Counter()
 
     def number(self, key):
         """The number of a key: the same for equal ones."""
@@ -287,6 +293,7 @@ class Search:
             states[state.key] = state
             if self.is_end(state):
                 ends[what_is_known(state.ranks)] = text_of(state.ranks, self.plan)
+                self.shared[whole_text(self.around(state), self.plan)] += 1
                 stops.append(state.key)
                 if self.is_over:
                     continue
@@ -311,9 +318,13 @@ class Search:
         """What is told of the most ranks that are stuck together in a state while others run on: nothing where none are."""
         if not any(hart.mode == WAITING for rank in state.ranks for hart in rank.harts):
             return b""
+        return why.told_of_company(self.around(state))
+
+    def around(self, state):
+        """The cluster of a state."""
         around = Around(self.image, copy_of_hub(state.hub), copy_of_boxes(state.boxes))
         around.ranks = [copy_of_rank(rank, around) for rank in state.ranks]
-        return why.told_of_company(around)
+        return around
 
     def walked(self, random, most):
         """The end that an order at random leads to, in so many turns at most, or None."""
@@ -484,8 +495,7 @@ class Recorded:
 
     def text(self):
         """What is told of the end behind its first line."""
-        whys = why.told(self.walk.cluster) if any(waits(rank, self.plan) for rank in self.ranks) else b""
-        return text_of(self.ranks, self.plan) + whys
+        return whole_text(self.walk.cluster, self.plan)
 
     def wrong(self, told, number, first):
         """What is wrong with it as the outcome of this number, or None."""
@@ -535,6 +545,11 @@ class Told:
             self.heads.append(text[at:stop])
             at = self.take_company(text, stop) if text[stop:].startswith(b"rank ") and b" hart " in line_at(text, stop) else 0
             at = at or self.take_end(text, stop, image)
+        # how many ends look like an outcome, by its number, where two or more do
+        self.looking, stop = {}, at
+        while line := LOOKING.match(text, stop):
+            self.looking[int(line[2])], stop = int(line[1]), line.end()
+        at = stop if text[at:stop] == self.looking_lines() else at
         self.is_unending = text[at:].startswith(UNENDING)
         at += len(UNENDING) if self.is_unending else 0
         closing = CLOSING.fullmatch(text[at:])
@@ -572,9 +587,20 @@ class Told:
         self.whys.append(text[start:at])
         return at
 
+    def looking_lines(self):
+        """The lines of outcomes that two or more ends look like, as they have to be."""
+        ends = [number for number, body in enumerate(self.bodies, 1) if body not in self.companies]
+        rows = [(self.looking[number], number) for number in ends if self.looking.get(number, 1) > 1]
+        return b"".join(b"%d ends look like outcome %d\n" % row for row in rows)
+
     def ends(self):
         """What is told of the ranks of each end."""
         return set(self.bodies) - self.companies
+
+    def shared(self):
+        """How many ends have each text, with what each hart waits for."""
+        texts = enumerate(zip(self.bodies, self.whys), 1)
+        return {body + told: self.looking.get(number, 1) for number, (body, told) in texts if body not in self.companies}
 
     def wrong(self, found, is_whole, companies):
         """What is wrong with it by ends and companies that were found, which may be all: None where nothing is."""
@@ -598,6 +624,12 @@ class Told:
         if self.companies or re.search(rb"^rank \d stop stuck$", lines, re.MULTILINE):
             return 7
         return 8 if self.is_unending else 0
+
+
+def whole_text(cluster, plan):
+    """What is told of an end, with what each hart waits for where one does."""
+    whys = why.told(cluster) if any(waits(rank, plan) for rank in cluster.ranks) else b""
+    return text_of(cluster.ranks, plan) + whys
 
 
 def largest(companies, told):

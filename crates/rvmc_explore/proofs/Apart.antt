@@ -24,6 +24,7 @@ use Rattle.rvmc_starts.specs.declared.starts.Start.{Start}
 use Rattle.rvmc_explore.specs.Outcomes.{IsEndBody}
 use Rattle.rvmc_explore.specs.SplitLaw.{HasEndAs, IsToldWhole, SplitLaw}
 use Rattle.rvmc_explore.specs.Splitting.{IsSplit, IsStartNumber}
+use Rattle.rvmc_explore.proofs.Listed.{end_told}
 
 -- ---- one order, one node
 
@@ -105,7 +106,7 @@ module _ (image : ImageParts) (order : List ℕ) (states turns least : ℕ) (tex
         let mine = subst (λ (o : List ℕ). IsEnd (by_order o) node.cluster) (sym (harts_are k start at)) ended in
         let place = ((listed.behind).explored).told i node
         (omega (arith, slice_get_within (nodes_of start its) i node there, its.whole), there) mine in
-        let body = (listed.are).ends place.0 i place.1 in
+        let body = end_told start.harts image listed.found tells.told listed.are place.0 i place.1 in
         let has = body.1 in
         let inside = slice_get_within tells.told has.0 has.1 has.2 in
         let text = at_inside (tells.part).ends has.0 (omega (arith, inside, (tells.ends).many)) in

@@ -1,17 +1,22 @@
 -- Outcomes, one behind another.
-use Rattle.std.specs.Prelude.{ℕ, suc, ◌+◌, ◌<◌, ◌≤◌, ◌≡◌, ◌⊎◌, List, [], ◌∷◌, ◌++◌, Bool, drop, length, slice_get, Some}
+use Rattle.std.specs.Prelude.{ℕ, suc, ◌+◌, ◌^◌, ◌<◌, ◌≤◌, ◌≡◌, ◌⊎◌, List, [], ◌∷◌, ◌++◌, Bool, true, false, cond, drop, length, slice_get, slice_set, Some}
+use Rattle.std.specs.Str.{bytes_eq}
 use Rattle.std.proofs.Common.{refl, sym, ap, ◌∙◌, subst, arith, drop-cons, inl, inr}
 use Rattle.std.proofs.lemmas.Bool.{cases_eq}
 use Rattle.std.proofs.lemmas.List.{drop_all, length-append}
+use Rattle.std.proofs.lemmas.List.Sums.{count_by-le-length, sum_by-cons, sum_by_push}
 use Rattle.std.proofs.lemmas.Option.{get_or_from_slice_get, same_Some, slice_get_within}
+use Rattle.std.proofs.lemmas.Slice.Eq.{bytes_eq-Decides}
 use Rattle.rv_image_types.specs.Image.{IsImage}
 use Rattle.rv_image_types.specs.declared.images.ImageParts.{ImageParts}
 use Rattle.cl_order_laws.specs.Closed.{Node}
-use Rattle.cl_explore.proofs.Lists.{at_last, stays_at, was_or_new}
+use Rattle.cl_machine.proofs.Lists.{get-set_other, get-set_same}
+use Rattle.cl_explore.proofs.Lists.{at_inside, at_last, stays_at, was_or_new}
 use Rattle.cl_explore.specs.Ends.{ExploredFrom, Findings}
 use Rattle.cl_explore.specs.declared.companies.Company.{Company}
 use Rattle.rvmc_starts.specs.declared.parts.EndText.{EndText}
-use Rattle.rvmc_explore.specs.Outcomes.{AddsNew, AreApart, AreTold, AreToldBeside, AreToldEnds, HasBody, IsEndBody, IsEndOutcome, IsOutcome, IsStuckBody, TellsEndAt, TellsStuck}
+use Rattle.rvmc_explore.specs.InnerOutcomes.{AddsEnd, AddsOne, AddsStuck, AreToldBeside, AreToldEnds, HaveRoom, one_end_more}
+use Rattle.rvmc_explore.specs.Outcomes.{AreApart, AreCounted, AreTold, HasBody, IsEndBody, IsEndOutcome, IsOutcome, IsStuckBody, TellsStuck, ends_with}
 use Rattle.rvmc_explore.specs.Searched.{AreSound, GoesTo, IsWithin}
 use Rattle.rvmc_explore.specs.Starting.{AreEndsTold, IsEndTold}
 use Rattle.rvmc_explore.specs.Telling.{AddsOutcome, AddsOutcomes}
@@ -34,66 +39,264 @@ within image order start found right explored = record {
 
 -- ---- one more
 
--- what was told is told
-stays_told : (old new : List Outcome) (node : ℕ) (body some : List ℕ) → AddsNew old node body new → HasBody old some
-    → HasBody new some
-stays_told old new node body some (inl same) has = subst (λ os. HasBody os some) (sym same.1) has
-stays_told old new node body some (inr more) has =
-    let one = (more.1).0 in
-    let is = (more.1).3 in
-    (has.0, has.1, subst (λ os. slice_get os has.0 ≡ Some has.1) (sym is) (stays_at old one has.0 has.1 has.2), has.3)
+-- a text is told, and those that were told are
+record Grows (old new : List Outcome) (body : List ℕ) : Type 0 where
+  stays : (text : List ℕ) → HasBody old text → HasBody new text
+  here : HasBody new body
+  still_apart : AreApart old → AreApart new
 
--- and so is this
-now_told : (old new : List Outcome) (node : ℕ) (body : List ℕ) → AddsNew old node body new → HasBody new body
-now_told old new node body (inl same) = subst (λ os. HasBody os body) (sym same.1) same.0
-now_told old new node body (inr more) =
-    let one = (more.1).0 in
-    let is = (more.1).3 in
-    (length old, one, subst (λ os. slice_get os (length old) ≡ Some one) (sym is) (at_last old one), (more.1).2)
+-- by an outcome behind the others
+module _ (old new : List Outcome) (node : ℕ) (body : List ℕ) (ends : ℕ) (adds : AddsOne old node body ends new) where
+  abbrev added : Outcome
+  added = (adds.1).0
 
--- each was there, or is the new one
-was_told : (old new : List Outcome) (node : ℕ) (body : List ℕ) → AddsNew old node body new → (k : ℕ) (outcome : Outcome)
+  was_or_added : (k : ℕ) (outcome : Outcome) → slice_get new k ≡ Some outcome
+      → (slice_get old k ≡ Some outcome) ⊎ ((k ≡ length old) × (added ≡ outcome))
+  was_or_added k outcome at =
+      elim (was_or_new old added k outcome (subst (λ os. slice_get os k ≡ Some outcome) (adds.1).4 at)) [
+        | inl was ↦ inl was
+        | inr last ↦ inr (last.0, same_Some added outcome last.1)
+      ]
+
+  -- it was there, or it has this text
+  was_one : (k : ℕ) (outcome : Outcome) → slice_get new k ≡ Some outcome
+      → (slice_get old k ≡ Some outcome)
+      ⊎ ((outcome.node ≡ node) × (outcome.body.items ≡ body) × (outcome.ends ≡ ends))
+  was_one k outcome at = elim (was_or_added k outcome at) [
+    | inl was ↦ inl was
+    | inr last ↦ inr (
+      ap (λ (o : Outcome). o.node) (sym last.1) ∙ (adds.1).1,
+      ap (λ (o : Outcome). o.body.items) (sym last.1) ∙ (adds.1).2,
+      ap (λ (o : Outcome). o.ends) (sym last.1) ∙ (adds.1).3,
+    )
+  ]
+
+  added_apart : AreApart old → AreApart new
+  added_apart apart i j one other at there equal = elim (was_or_added i one at) [
+    | inl first ↦ elim (was_or_added j other there) [
+      | inl second ↦ apart i j one other first second equal
+      | inr last ↦ absurd (adds.0 (i, one, first, equal ∙ (ap (λ (o : Outcome). o.body.items) (sym last.1) ∙ (adds.1).2)))
+    ]
+    | inr last ↦ elim (was_or_added j other there) [
+      | inl second ↦
+          absurd (adds.0 (j, other, second, sym equal ∙ (ap (λ (o : Outcome). o.body.items) (sym last.1) ∙ (adds.1).2)))
+      | inr again ↦ last.0 ∙ sym again.0
+    ]
+  ]
+
+  by_one : Grows old new body
+  by_one = record {
+    stays = λ text has. (
+      has.0,
+      has.1,
+      subst (λ os. slice_get os has.0 ≡ Some has.1) (sym (adds.1).4) (stays_at old added has.0 has.1 has.2),
+      has.3,
+    );
+    here = (
+      length old,
+      added,
+      subst (λ os. slice_get os (length old) ≡ Some added) (sym (adds.1).4) (at_last old added),
+      (adds.1).2,
+    );
+    still_apart = added_apart;
+  }
+
+-- an outcome that is there was there before, but for how many ends it has
+abbrev WasAt : List Outcome → ℕ → Outcome → Type 0
+WasAt old k outcome =
+    (before : Outcome) × (slice_get old k ≡ Some before) × (before.node ≡ outcome.node)
+    × (before.body.items ≡ outcome.body.items)
+
+-- by one end more of the outcome at a place
+module _ (old new : List Outcome) (place : ℕ) (one : Outcome) (at_place : slice_get old place ≡ Some one)
+    (is : new ≡ slice_set old place (one_end_more one)) where
+  counted_at : slice_get new place ≡ Some (one_end_more one)
+  counted_at = ap (λ os. slice_get os place) is ∙ get-set_same old place one (one_end_more one) at_place
+
+  others_at : (k : ℕ) → (place ≡ k → ⊥) → slice_get new k ≡ slice_get old k
+  others_at k other = ap (λ os. slice_get os k) is ∙ get-set_other old place k (one_end_more one) other
+
+  -- it is the one there, or another that was there
+  of_which : (k : ℕ) (outcome : Outcome) → slice_get new k ≡ Some outcome
+      → ((place ≡ k) × (one_end_more one ≡ outcome)) ⊎ ((place ≡ k → ⊥) × (slice_get old k ≡ Some outcome))
+  of_which k outcome at = elim (cases_eq place k) [
+    | inl same ↦
+        let there : slice_get new k ≡ Some (one_end_more one) =
+        subst (λ n. slice_get new n ≡ Some (one_end_more one)) same counted_at in
+        inl (same, same_Some (one_end_more one) outcome (sym there ∙ at))
+    | inr other ↦ inr (other, sym (others_at k other) ∙ at)
+  ]
+
+  was_there : (k : ℕ) (outcome : Outcome) → slice_get new k ≡ Some outcome → WasAt old k outcome
+  was_there k outcome at = elim (of_which k outcome at) [
+    | inl here ↦ (
+      one,
+      subst (λ n. slice_get old n ≡ Some one) here.0 at_place,
+      ap (λ (o : Outcome). o.node) here.1,
+      ap (λ (o : Outcome). o.body.items) here.1,
+    )
+    | inr other ↦ (outcome, other.1, refl, refl)
+  ]
+
+  stays_there : (text : List ℕ) → HasBody old text → HasBody new text
+  stays_there text has = elim (cases_eq place has.0) [
+    | inl same ↦
+        let its : one ≡ has.1 =
+        same_Some one has.1 (sym at_place ∙ subst (λ n. slice_get old n ≡ Some has.1) (sym same) has.2) in
+        (place, one_end_more one, counted_at, ap (λ (o : Outcome). o.body.items) its ∙ has.3)
+    | inr other ↦ (has.0, has.1, others_at has.0 other ∙ has.2, has.3)
+  ]
+
+  by_count : (body : List ℕ) → one.body.items ≡ body → Grows old new body
+  by_count body same = record {
+    stays = stays_there;
+    here = (place, one_end_more one, counted_at, same);
+    still_apart = λ apart i j this other here there equal.
+        let first = was_there i this here in
+        let second = was_there j other there in
+        apart i j first.0 second.0 first.1 second.1 (first.3 ∙ (equal ∙ sym second.3));
+  }
+
+by_end : (old new : List Outcome) (node : ℕ) (body : List ℕ) → AddsEnd old node body new → Grows old new body
+by_end old new node body (inl (place, at, counts)) = by_count old new place at.0 at.1 (counts at.0 at.1) body at.2
+by_end old new node body (inr adds) = by_one old new node body 1 adds
+
+was_end : (old new : List Outcome) (node : ℕ) (body : List ℕ) → AddsEnd old node body new → (k : ℕ) (outcome : Outcome)
+    → slice_get new k ≡ Some outcome → WasAt old k outcome ⊎ ((outcome.node ≡ node) × (outcome.body.items ≡ body))
+was_end old new node body (inl (place, at, counts)) k outcome there =
+    inl (was_there old new place at.0 at.1 (counts at.0 at.1) k outcome there)
+was_end old new node body (inr adds) k outcome there = elim (was_one old new node body 1 adds k outcome there) [
+  | inl was ↦ inl (outcome, was, refl, refl)
+  | inr one ↦ inr (one.0, one.1)
+]
+
+by_stuck : (old new : List Outcome) (node : ℕ) (body : List ℕ) → AddsStuck old node body new → Grows old new body
+by_stuck old new node body (inl same) = record {
+  stays = λ text has. subst (λ os. HasBody os text) (sym same.1) has;
+  here = subst (λ os. HasBody os body) (sym same.1) same.0;
+  still_apart = λ apart. subst AreApart (sym same.1) apart;
+}
+by_stuck old new node body (inr adds) = by_one old new node body 0 adds
+
+was_stuck : (old new : List Outcome) (node : ℕ) (body : List ℕ) → AddsStuck old node body new → (k : ℕ) (outcome : Outcome)
     → slice_get new k ≡ Some outcome
-    → (slice_get old k ≡ Some outcome) ⊎ ((outcome.node ≡ node) × (outcome.body.items ≡ body))
-was_told old new node body (inl same) k outcome at = inl (subst (λ os. slice_get os k ≡ Some outcome) same.1 at)
-was_told old new node body (inr more) k outcome at =
-    let one = (more.1).0 in
-    elim (was_or_new old one k outcome (subst (λ os. slice_get os k ≡ Some outcome) (more.1).3 at)) [
-      | inl was ↦ inl was
-      | inr last ↦
-          let is : one ≡ outcome = same_Some one outcome last.1 in
-          inr (
-            ap (λ (o : Outcome). o.node) (sym is) ∙ (more.1).1,
-            ap (λ (o : Outcome). o.body.items) (sym is) ∙ (more.1).2,
-          )
+    → (slice_get old k ≡ Some outcome) ⊎ ((outcome.node ≡ node) × (outcome.body.items ≡ body) × (outcome.ends ≡ 0))
+was_stuck old new node body (inl same) k outcome at = inl (subst (λ os. slice_get os k ≡ Some outcome) same.1 at)
+was_stuck old new node body (inr adds) k outcome at = was_one old new node body 0 adds k outcome at
+
+-- an end's outcome is one, however many ends it has
+of_same_end : (order : List ℕ) (image : ImageParts) (found : Findings) (one other : Outcome) → one.node ≡ other.node
+    → one.body.items ≡ other.body.items → IsEndOutcome order image found one → IsEndOutcome order image found other
+of_same_end order image found one other node body ((k, at), is) = (
+  (k, at ∙ ap (λ n. Some n) node),
+  subst (λ n. IsEndBody order image found.kept n other.body.items) node
+      (subst (IsEndBody order image found.kept one.node) body is),
+)
+
+-- ---- how many ends have a text
+
+-- 1 if a text is this one
+abbrev one_if : List ℕ → List ℕ → ℕ
+one_if body text = cond (bytes_eq body text) 1 0
+
+pub with_same : (bodies : List (List ℕ)) (body text : List ℕ) → body ≡ text
+    → ends_with (bodies ++ body ∷ []) text ≡ ends_with bodies text + 1
+with_same bodies body text same =
+    sum_by_push (λ b. one_if b text) bodies body
+    ∙ ap (λ b. ends_with bodies text + cond b 1 0) ((bytes_eq-Decides body text).1 same)
+
+not_one : (body text : List ℕ) → (body ≡ text → ⊥) → one_if body text ≡ 0
+not_one body text other = of (bytes_eq body text) refl
+  where
+    of : (b : Bool) → bytes_eq body text ≡ b → one_if body text ≡ 0
+    of true is = absurd (other ((bytes_eq-Decides body text).0 is))
+    of false is = ap (λ b. cond b 1 0) is
+
+pub with_other : (bodies : List (List ℕ)) (body text : List ℕ) → (body ≡ text → ⊥)
+    → ends_with (bodies ++ body ∷ []) text ≡ ends_with bodies text
+with_other bodies body text other =
+    let more : ends_with (bodies ++ body ∷ []) text ≡ ends_with bodies text + one_if body text =
+    sum_by_push (λ b. one_if b text) bodies body in
+    let none = not_one body text other in
+    omega (arith, more, none)
+
+pub with_none : (bodies : List (List ℕ)) (text : List ℕ)
+    → ((k : ℕ) (body : List ℕ) → slice_get bodies k ≡ Some body → body ≡ text → ⊥) → ends_with bodies text ≡ 0
+with_none [] text none = refl
+with_none (body ∷ bodies) text none =
+    let more : ends_with (body ∷ bodies) text ≡ one_if body text + ends_with bodies text =
+    sum_by-cons (λ b. one_if b text) body bodies in
+    let first = not_one body text (none 0 body refl) in
+    let rest = with_none bodies text (λ k b. none (suc k) b) in
+    omega (arith, more, first, rest)
+
+-- each outcome has as many ends as there are of these texts that are its own
+abbrev AreCountedBy : List (List ℕ) → List Outcome → Type 0
+AreCountedBy bodies told =
+    (k : ℕ) (outcome : Outcome) → slice_get told k ≡ Some outcome → outcome.ends ≡ ends_with bodies outcome.body.items
+
+abbrev AreThere : List (List ℕ) → List Outcome → Type 0
+AreThere bodies told = (k : ℕ) (body : List ℕ) → slice_get bodies k ≡ Some body → HasBody told body
+
+-- an outcome that is new has none of them
+none_yet : (bodies : List (List ℕ)) (told : List Outcome) (body text : List ℕ) → AreThere bodies told
+    → (HasBody told body → ⊥) → text ≡ body → ends_with bodies text ≡ 0
+none_yet bodies told body text there new is =
+    with_none bodies text (λ k b at same. new (subst (HasBody told) (same ∙ is) (there k b at)))
+
+counted_end : (bodies : List (List ℕ)) (old new : List Outcome) (node : ℕ) (body : List ℕ) → AreApart old
+    → AreThere bodies old → AddsEnd old node body new → AreCountedBy bodies old
+    → AreCountedBy (bodies ++ body ∷ []) new
+counted_end bodies old new node body apart there (inl (place, at, counts)) each = λ k outcome now.
+    elim (of_which old new place at.0 at.1 (counts at.0 at.1) k outcome now) [
+      | inl here ↦
+          let text : at.0.body.items ≡ outcome.body.items = ap (λ (o : Outcome). o.body.items) here.1 in
+          let more : at.0.ends + 1 ≡ outcome.ends = ap (λ (o : Outcome). o.ends) here.1 in
+          let were : at.0.ends ≡ ends_with bodies outcome.body.items = each place at.0 at.1 ∙ ap (ends_with bodies) text in
+          let sum = with_same bodies body outcome.body.items (sym at.2 ∙ text) in
+          omega (arith, more, were, sum)
+      | inr other ↦
+          each k outcome other.1
+          ∙ sym (with_other bodies body outcome.body.items
+          (λ same. other.0 (apart place k at.0 outcome at.1 other.1 (at.2 ∙ same))))
+    ]
+counted_end bodies old new node body apart there (inr adds) each = λ k outcome now.
+    elim (was_one old new node body 1 adds k outcome now) [
+      | inl was ↦
+          each k outcome was
+          ∙ sym (with_other bodies body outcome.body.items (λ same. adds.0 (k, outcome, was, sym same)))
+      | inr one ↦
+          let none = none_yet bodies old body outcome.body.items there adds.0 one.1 in
+          let sum = with_same bodies body outcome.body.items (sym one.1) in
+          omega (arith, one.2, none, sum)
     ]
 
-still_apart : (old new : List Outcome) (node : ℕ) (body : List ℕ) → AddsNew old node body new → AreApart old
-    → AreApart new
-still_apart old new node body (inl same) apart = subst AreApart (sym same.1) apart
-still_apart old new node body (inr more) apart = subst AreApart (sym (more.1).3) (λ i j one other here there equal.
-    elim (was_or_new old (more.1).0 i one here) [
-      | inl first ↦ elim (was_or_new old (more.1).0 j other there) [
-        | inl second ↦ apart i j one other first second equal
-        | inr last ↦ absurd (more.0 (i, one, first, equal ∙ of last.1))
-      ]
-      | inr last ↦ elim (was_or_new old (more.1).0 j other there) [
-        | inl second ↦ absurd (more.0 (j, other, second, sym equal ∙ of last.1))
-        | inr again ↦ last.0 ∙ sym again.0
-      ]
-    ])
-  where
-    of : {o : Outcome} → Some ((more.1).0) ≡ Some o → o.body.items ≡ body
-    of {o} is = ap (λ (x : Outcome). x.body.items) (sym (same_Some ((more.1).0) o is)) ∙ (more.1).2
+counted_stuck : (bodies : List (List ℕ)) (old new : List Outcome) (node : ℕ) (body : List ℕ) → AreThere bodies old
+    → AddsStuck old node body new → AreCountedBy bodies old → AreCountedBy bodies new
+counted_stuck bodies old new node body there (inl same) each = subst (AreCountedBy bodies) (sym same.1) each
+counted_stuck bodies old new node body there (inr adds) each = λ k outcome now.
+    elim (was_one old new node body 0 adds k outcome now) [
+      | inl was ↦ each k outcome was
+      | inr one ↦ one.2 ∙ sym (none_yet bodies old body outcome.body.items there adds.0 one.1)
+    ]
 
 -- ---- the ends
 
--- so far, of the first so many
+-- so far, of the first so many: a text of each
+pub record BodiesSoFar (order : List ℕ) (image : ImageParts) (found : Findings) (count : ℕ) (told : List Outcome)
+    : Type 0 where
+  pub bodies : List (List ℕ)
+  pub many : length bodies ≡ count
+  pub each : (k node : ℕ) (body : List ℕ) → slice_get found.ends k ≡ Some node → slice_get bodies k ≡ Some body
+      → IsEndBody order image found.kept node body
+  pub there : AreThere bodies told
+  pub counted : AreCountedBy bodies told
+
 pub record EndsSoFar (order : List ℕ) (image : ImageParts) (found : Findings) (count : ℕ) (told : List Outcome)
     : Type 0 where
   pub each : (k : ℕ) (outcome : Outcome) → slice_get told k ≡ Some outcome → IsEndOutcome order image found outcome
   pub apart : AreApart told
-  pub ends : (k node : ℕ) → k < count → slice_get found.ends k ≡ Some node → TellsEndAt order image found.kept told node
+  pub texts : BodiesSoFar order image found count told
 
 pub no_ends : (order : List ℕ) (image : ImageParts) (found : Findings) (told : List Outcome) → told ≡ []
     → EndsSoFar order image found 0 told
@@ -102,40 +305,82 @@ no_ends order image found told none = record {
       let no_one : slice_get [] k ≡ Some outcome = subst (λ os. slice_get os k ≡ Some outcome) none at in absurd (cc);
   apart = λ i j one other here there equal.
       let no_one : slice_get [] i ≡ Some one = subst (λ os. slice_get os i ≡ Some one) none here in absurd (cc);
-  ends = λ k node low at. absurd (omega (arith, low));
+  texts = record {
+    bodies = [];
+    many = refl;
+    each = λ k node body at text. absurd (cc);
+    there = λ k body at. absurd (cc);
+    counted = λ k outcome at.
+        let no_one : slice_get [] k ≡ Some outcome = subst (λ os. slice_get os k ≡ Some outcome) none at in absurd (cc);
+  };
 }
+
+-- where each has fewer ends than there can be, it may have one more
+pub have_room : (order : List ℕ) (image : ImageParts) (found : Findings) (count : ℕ) (told : List Outcome)
+    → count + 1 < 2 ^ 64 → EndsSoFar order image found count told → HaveRoom told
+have_room order image found count told few so_far k outcome at =
+    let texts = so_far.texts in
+    let its = texts.counted k outcome at in
+    let most = count_by-le-length (λ body. bytes_eq body outcome.body.items) texts.bodies in
+    omega (arith, few, its, most, texts.many)
+
+texts_more : (order : List ℕ) (image : ImageParts) (found : Findings) (count node : ℕ) (body : List ℕ)
+    (old new : List Outcome) → slice_get found.ends count ≡ Some node → IsEndBody order image found.kept node body
+    → AddsEnd old node body new → AreApart old → BodiesSoFar order image found count old
+    → BodiesSoFar order image found (count + 1) new
+texts_more order image found count node body old new at is adds apart so_far =
+    let grows = by_end old new node body adds in
+    record {
+      bodies = so_far.bodies ++ body ∷ [];
+      many = length-append so_far.bodies (body ∷ []) ∙ ap (λ n. n + 1) so_far.many;
+      each = λ k n text here there. elim (was_or_new so_far.bodies body k text there) [
+        | inl was ↦ so_far.each k n text here was
+        | inr last ↦
+            let place : k ≡ count = last.0 ∙ so_far.many in
+            let its : node ≡ n = same_Some node n (sym at ∙ subst (λ j. slice_get found.ends j ≡ Some n) place here) in
+            subst (λ m. IsEndBody order image found.kept m text) its
+            (subst (IsEndBody order image found.kept node) (same_Some body text last.1) is)
+      ];
+      there = λ k text has. elim (was_or_new so_far.bodies body k text has) [
+        | inl was ↦ grows.stays text (so_far.there k text was)
+        | inr last ↦ subst (HasBody new) (same_Some body text last.1) grows.here
+      ];
+      counted = counted_end so_far.bodies old new node body apart so_far.there adds so_far.counted;
+    }
 
 pub one_end : (order : List ℕ) (image : ImageParts) (found : Findings) (count node : ℕ) (body : List ℕ)
     (old new : List Outcome) → slice_get found.ends count ≡ Some node → IsEndBody order image found.kept node body
-    → AddsNew old node body new → EndsSoFar order image found count old → EndsSoFar order image found (count + 1) new
-one_end order image found count node body old new at is adds so_far = record {
-  each = λ k outcome there. elim (was_told old new node body adds k outcome there) [
-    | inl was ↦ so_far.each k outcome was
-    | inr one ↦ (
-      (count, at ∙ ap (λ n. Some n) (sym one.0)),
-      subst (λ n. IsEndBody order image found.kept n outcome.body.items) (sym one.0)
-          (subst (IsEndBody order image found.kept node) (sym one.1) is),
-    )
-  ];
-  apart = still_apart old new node body adds so_far.apart;
-  ends = λ k n low there. elim (cases_eq count k) [
-    | inl same ↦
-        let is_node : node ≡ n = same_Some node n (sym at ∙ subst (λ j. slice_get found.ends j ≡ Some n) (sym same) there) in
-        (body, now_told old new node body adds, subst (λ m. IsEndBody order image found.kept m body) is_node is)
-    | inr other ↦
-        let t = so_far.ends k n (omega (arith, low, other)) there in
-        (t.0, stays_told old new node body t.0 adds t.1, t.2)
-  ];
-}
+    → AddsEnd old node body new → EndsSoFar order image found count old → EndsSoFar order image found (count + 1) new
+one_end order image found count node body old new at is adds so_far =
+    let grows = by_end old new node body adds in
+    record {
+      each = λ k outcome there. elim (was_end old new node body adds k outcome there) [
+        | inl was ↦ of_same_end order image found was.0 outcome was.2 was.3 (so_far.each k was.0 was.1)
+        | inr one ↦ (
+          (count, at ∙ ap (λ n. Some n) (sym one.0)),
+          subst (λ n. IsEndBody order image found.kept n outcome.body.items) (sym one.0)
+              (subst (IsEndBody order image found.kept node) (sym one.1) is),
+        )
+      ];
+      apart = grows.still_apart so_far.apart;
+      texts = texts_more order image found count node body old new at is adds so_far.apart so_far.texts;
+    }
 
 pub all_ends : (order : List ℕ) (image : ImageParts) (found : Findings) (count : ℕ) (told : List Outcome)
-    → length found.ends ≤ count → EndsSoFar order image found count told → AreToldEnds order image found told
-all_ends order image found count told all so_far = record {
-  each = so_far.each;
-  apart = so_far.apart;
-  ends = λ k node at.
-      let inside = slice_get_within found.ends k node at in so_far.ends k node (omega (arith, all, inside)) at;
-}
+    → count ≡ length found.ends → EndsSoFar order image found count told → AreToldEnds order image found told
+all_ends order image found count told all so_far =
+    let texts = so_far.texts in
+    record {
+      each = so_far.each;
+      apart = so_far.apart;
+      counted = record {
+        bodies = texts.bodies;
+        many = texts.many ∙ all;
+        of = texts.each;
+        there = texts.there;
+        each = texts.counted;
+      };
+    }
 
 -- ---- the companies
 
@@ -143,7 +388,7 @@ pub record StuckSoFar (order : List ℕ) (image : ImageParts) (found : Findings)
     : Type 0 where
   pub each : (k : ℕ) (outcome : Outcome) → slice_get told k ≡ Some outcome → IsOutcome order image found outcome
   pub apart : AreApart told
-  pub ends : (k node : ℕ) → slice_get found.ends k ≡ Some node → TellsEndAt order image found.kept told node
+  pub counted : AreCounted order image found told
   pub stuck : (k : ℕ) (company : Company) → k < count → slice_get found.companies k ≡ Some company
       → GoesTo found.leads found.ends company.node ⊎ TellsStuck image found.kept told company
 
@@ -152,8 +397,18 @@ pub ends_alone : (order : List ℕ) (image : ImageParts) (found : Findings) (tol
 ends_alone order image found told are = record {
   each = λ k outcome at. inl (are.each k outcome at);
   apart = are.apart;
-  ends = are.ends;
+  counted = are.counted;
   stuck = λ k company low at. absurd (omega (arith, low));
+}
+
+still_counted : (order : List ℕ) (image : ImageParts) (found : Findings) (old new : List Outcome) (node : ℕ)
+    (body : List ℕ) → AddsStuck old node body new → AreCounted order image found old → AreCounted order image found new
+still_counted order image found old new node body adds are = record {
+  bodies = are.bodies;
+  many = are.many;
+  of = are.of;
+  there = λ k text at. (by_stuck old new node body adds).stays text (are.there k text at);
+  each = counted_stuck are.bodies old new node body are.there adds are.each;
 }
 
 pub one_company : (order : List ℕ) (image : ImageParts) (found : Findings) (count : ℕ) (marks : List Bool)
@@ -164,7 +419,7 @@ one_company order image found count marks company old new at sound (inl marked) 
     subst (λ os. StuckSoFar order image found (count + 1) os) (sym marked.1) (record {
       each = so_far.each;
       apart = so_far.apart;
-      ends = so_far.ends;
+      counted = so_far.counted;
       stuck = λ k c low there. elim (cases_eq count k) [
         | inl same ↦
             let is : company ≡ c =
@@ -177,23 +432,23 @@ one_company order image found count marks company old new at sound (inr more) so
     let body = more.0 in
     let is = more.1 in
     let adds = more.2 in
+    let grows = by_stuck old new company.node body adds in
     record {
-      each = λ k outcome there. elim (was_told old new company.node body adds k outcome there) [
+      each = λ k outcome there. elim (was_stuck old new company.node body adds k outcome there) [
         | inl was ↦ so_far.each k outcome was
-        | inr one ↦ inr (count, company, at, sym one.0, subst (IsStuckBody image found.kept company) (sym one.1) is)
+        | inr one ↦
+            inr (count, company, at, sym one.0, subst (IsStuckBody image found.kept company) (sym one.1) is, one.2)
       ];
-      apart = still_apart old new company.node body adds so_far.apart;
-      ends = λ k node there.
-          let t = so_far.ends k node there in (t.0, stays_told old new company.node body t.0 adds t.1, t.2);
+      apart = grows.still_apart so_far.apart;
+      counted = still_counted order image found old new company.node body adds so_far.counted;
       stuck = λ k c low there. elim (cases_eq count k) [
         | inl same ↦
             let its : company ≡ c =
             same_Some company c (sym at ∙ subst (λ j. slice_get found.companies j ≡ Some c) (sym same) there) in
-            inr (subst (TellsStuck image found.kept new) its
-            (body, now_told old new company.node body adds, is))
+            inr (subst (TellsStuck image found.kept new) its (body, grows.here, is))
         | inr other ↦ elim (so_far.stuck k c (omega (arith, low, other)) there) [
           | inl leads ↦ inl leads
-          | inr t ↦ inr (t.0, stays_told old new company.node body t.0 adds t.1, t.2)
+          | inr t ↦ inr (t.0, grows.stays t.0 t.1, t.2)
         ]
       ];
     }
@@ -203,11 +458,21 @@ pub all_told : (order : List ℕ) (image : ImageParts) (found : Findings) (count
 all_told order image found count told all so_far = record {
   each = so_far.each;
   apart = so_far.apart;
-  ends = so_far.ends;
+  counted = so_far.counted;
   stuck = λ k company at.
       let inside = slice_get_within found.companies k company at in
       so_far.stuck k company (omega (arith, all, inside)) at;
 }
+
+-- each end is told
+pub end_told : (order : List ℕ) (image : ImageParts) (found : Findings) (told : List Outcome)
+    → AreTold order image found told → (k node : ℕ) → slice_get found.ends k ≡ Some node
+    → (body : List ℕ) × HasBody told body × IsEndBody order image found.kept node body
+end_told order image found told are k node at =
+    let counted = are.counted in
+    let inside = slice_get_within found.ends k node at in
+    let body = at_inside counted.bodies k (omega (arith, inside, counted.many)) in
+    (body.0, counted.there k body.0 body.1, counted.of k node body.0 at body.1)
 
 -- ---- their text
 

@@ -107,10 +107,10 @@ targets_stay targets old new same stay are k i at low = stay i (are k i at (omeg
 
 -- ---- a vector whose slice a call marks further
 
--- what the vector holds then
-pub marked_slice : (old slice new : List Bool) (len : ℕ) → slice ≡ old → len ≡ length old → length new ≡ length slice
+-- what a vector holds whose slice a call changed
+pub changed_slice : {A : Type 0} (old slice new : List A) (len : ℕ) → slice ≡ old → len ≡ length old → length new ≡ length slice
     → take len (new ++ drop (length new) old) ≡ new
-marked_slice old slice new len same low long =
+changed_slice old slice new len same low long =
     let many : len ≡ length new = low ∙ (ap length (sym same) ∙ sym long) in
     ap (λ n. take n (new ++ drop (length new) old)) many ∙ take-append_seam new (drop (length new) old)
 
@@ -127,7 +127,7 @@ pub marked_on : (leads lent : List Lead) (targets : List ℕ) (count : ℕ) (old
     → AreMarked leads targets count old
     → AreMarked leads targets count (take len (new ++ drop (length new) old))
 marked_on leads lent targets count old slice new len is same low long sound stay (many, first, at) =
-    subst (AreMarked leads targets count) (sym (marked_slice old slice new len same low long)) (
+    subst (AreMarked leads targets count) (sym (changed_slice old slice new len same low long)) (
       long ∙ (ap length same ∙ many),
       subst (λ ls. AreSound ls targets new) is
           (sound (subst (λ ls. AreSound ls targets slice) (sym is) (subst (AreSound leads targets) (sym same) first))),

@@ -28,6 +28,7 @@ use Rattle.rvmc_explore.specs.Ends.{one_waits, IsWaitText, any_waits}
 use Rattle.rvmc_explore.specs.OneList.{IsTextAt, LeadsToText, OneListLaw, TellsEnd, lines_from}
 use Rattle.rvmc_explore.specs.Outcomes.{AreTold, IsListOf, IsOutcome, nodes_told}
 use Rattle.rvmc_explore.specs.Recorded.{Leads, LeadsTo, numbered}
+use Rattle.rvmc_explore.proofs.Listed.{end_told}
 use Rattle.rvmc_explore.proofs.ToEnds.{nodes_at}
 use Rattle.rvmc_explore.specs.Telling.{Tells, any_end, has_stuck, holds_of, is_some_company, search_status, trapped_in, waits_in}
 use Rattle.rvmc_explore.specs.declared.outcomes.Outcome.{Outcome}
@@ -45,7 +46,7 @@ module _ (image : ImageParts) (order : List ℕ) (states turns : ℕ) (told : Li
       → TellsEnd image order states turns told listed end
   tells_end steps end run follow is =
       let v = explored.all whole steps end run follow is in
-      let body = (listed.are).ends v.0 v.1 v.3 in
+      let body = end_told order image listed.found told listed.are v.0 v.1 v.3 in
       let kept = (body.2).is in
       let text = (body.2).told in
       let ranks : map rank_of (body.2).state.ranks.items ≡ v.2.cluster.ranks =

@@ -3,6 +3,7 @@ pub mod Searched
 pub mod Marks
 pub mod Endless
 pub mod Outcomes
+pub mod InnerOutcomes
 pub mod Telling
 pub mod There
 pub mod Recorded

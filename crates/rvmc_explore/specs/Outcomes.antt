@@ -1,5 +1,7 @@
 -- What is told of a search: its ends, and ranks that are stuck while others run on.
-use Rattle.std.specs.Prelude.{ℕ, ◌≡◌, ◌⊎◌, List, [], ◌∷◌, ◌++◌, Bool, true, map, slice_get, Some}
+use Rattle.std.specs.Prelude.{ℕ, ◌≡◌, ◌⊎◌, List, [], length, map, slice_get, Some}
+use Rattle.std.specs.List.{count_by}
+use Rattle.std.specs.Str.{bytes_eq}
 use Rattle.rv_image_types.specs.declared.images.ImageParts.{ImageParts}
 use Rattle.cl_explore.specs.Ends.{Findings}
 use Rattle.cl_explore.specs.declared.companies.Company.{Company}
@@ -25,7 +27,7 @@ pub record IsStuckBody (image : ImageParts) (kept : List KeptNode) (company : Co
   pub is : IsKeptState kept company.node state
   pub spelled : body ≡ company_text image state company.ranks.items
 
--- what is told is that of an end, or of a company that is stuck in a node
+-- what is told is that of an end, or of a company that is stuck in a node, whose text no end has
 abbrev pub IsEndOutcome : List ℕ → ImageParts → Findings → Outcome → Type 0
 IsEndOutcome order image found outcome =
     ((k : ℕ) × (slice_get found.ends k ≡ Some outcome.node))
@@ -34,7 +36,7 @@ IsEndOutcome order image found outcome =
 abbrev pub IsStuckOutcome : ImageParts → Findings → Outcome → Type 0
 IsStuckOutcome image found outcome =
     (k : ℕ) × (company : Company) × (slice_get found.companies k ≡ Some company) × (company.node ≡ outcome.node)
-    × IsStuckBody image found.kept company outcome.body.items
+    × IsStuckBody image found.kept company outcome.body.items × (outcome.ends ≡ 0)
 
 abbrev pub IsOutcome : List ℕ → ImageParts → Findings → Outcome → Type 0
 IsOutcome order image found outcome = IsEndOutcome order image found outcome ⊎ IsStuckOutcome image found outcome
@@ -51,21 +53,32 @@ AreApart told =
     (i j : ℕ) (one other : Outcome) → slice_get told i ≡ Some one → slice_get told j ≡ Some other
     → one.body.items ≡ other.body.items → i ≡ j
 
--- the text of this end is told
-abbrev pub TellsEndAt : List ℕ → ImageParts → List KeptNode → List Outcome → ℕ → Type 0
-TellsEndAt order image kept told node =
-    (body : List ℕ) × HasBody told body × IsEndBody order image kept node body
-
--- and that of these ranks
+-- the text of these ranks is told
 abbrev pub TellsStuck : ImageParts → List KeptNode → List Outcome → Company → Type 0
 TellsStuck image kept told company = (body : List ℕ) × HasBody told body × IsStuckBody image kept company body
 
--- each is an outcome, and no two have the same text; each end is told, and so are the ranks that are stuck in each node
--- that leads to no end: of a node that does they are told at that end
+-- ---- how many ends have a text
+
+-- how many of these texts are this one
+abbrev pub ends_with : List (List ℕ) → List ℕ → ℕ
+ends_with bodies text = count_by (λ body. bytes_eq body text) bodies
+
+-- of a text of each end, in their order: each is told, and each outcome says how many of them are its own
+pub record AreCounted (order : List ℕ) (image : ImageParts) (found : Findings) (told : List Outcome) : Type 0 where
+  pub bodies : List (List ℕ)
+  pub many : length bodies ≡ length found.ends
+  pub of : (k node : ℕ) (body : List ℕ) → slice_get found.ends k ≡ Some node → slice_get bodies k ≡ Some body
+      → IsEndBody order image found.kept node body
+  pub there : (k : ℕ) (body : List ℕ) → slice_get bodies k ≡ Some body → HasBody told body
+  pub each : (k : ℕ) (outcome : Outcome) → slice_get told k ≡ Some outcome
+      → outcome.ends ≡ ends_with bodies outcome.body.items
+
+-- each is an outcome, and no two have the same text; each end is told, with how many have its text, and so are the ranks
+-- that are stuck in each node that leads to no end: of a node that does they are told at that end
 pub record AreTold (order : List ℕ) (image : ImageParts) (found : Findings) (told : List Outcome) : Type 0 where
   pub each : (k : ℕ) (outcome : Outcome) → slice_get told k ≡ Some outcome → IsOutcome order image found outcome
   pub apart : AreApart told
-  pub ends : (k node : ℕ) → slice_get found.ends k ≡ Some node → TellsEndAt order image found.kept told node
+  pub counted : AreCounted order image found told
   pub stuck : (k : ℕ) (company : Company) → slice_get found.companies k ≡ Some company
       → GoesTo found.leads found.ends company.node ⊎ TellsStuck image found.kept told company
 
@@ -78,24 +91,3 @@ pub record IsListOf (image : ImageParts) (order : List ℕ) (states turns : ℕ)
 -- the numbers of their nodes, in order
 abbrev pub nodes_told : List Outcome → List ℕ
 nodes_told told = map (λ outcome. outcome.node) told
-
--- ---- on the way
-
--- behind the others, unless one has the same text
-abbrev pub AddsNew : List Outcome → ℕ → List ℕ → List Outcome → Type 0
-AddsNew old node body new =
-    (HasBody old body × (new ≡ old))
-    ⊎ ((HasBody old body → ⊥)
-    × ((outcome : Outcome) × (outcome.node ≡ node) × (outcome.body.items ≡ body) × (new ≡ old ++ outcome ∷ [])))
-
--- the ends alone
-pub record AreToldEnds (order : List ℕ) (image : ImageParts) (found : Findings) (told : List Outcome) : Type 0 where
-  pub each : (k : ℕ) (outcome : Outcome) → slice_get told k ≡ Some outcome → IsEndOutcome order image found outcome
-  pub apart : AreApart told
-  pub ends : (k node : ℕ) → slice_get found.ends k ≡ Some node → TellsEndAt order image found.kept told node
-
--- of a node that is marked nothing is added
-abbrev pub AreToldBeside : ImageParts → List KeptNode → List Bool → Company → List Outcome → List Outcome → Type 0
-AreToldBeside image kept marks company old new =
-    ((slice_get marks company.node ≡ Some true) × (new ≡ old))
-    ⊎ ((body : List ℕ) × IsStuckBody image kept company body × AddsNew old company.node body new)

@@ -1,7 +1,7 @@
 -- What `explore` prints.
-use Rattle.std.specs.Prelude.{ℕ, ◌+◌, ◌≡◌, ◌++◌, ◌==◌, ◌||◌, List, [], ◌∷◌, Bool, false, not, Option, Some, None, codes, if◌then◌else◌, length, slice_get}
+use Rattle.std.specs.Prelude.{ℕ, ◌+◌, ◌≡◌, ◌++◌, ◌==◌, ◌||◌, List, [], ◌∷◌, Bool, false, nat_lt, not, Option, Some, None, codes, if◌then◌else◌, length, slice_get}
 use Rattle.std.specs.Fmt.{decimal}
-use Rattle.std.specs.List.{list_any}
+use Rattle.std.specs.List.{enumerate_from, flat_map, list_any}
 use Rattle.rv_image_types.specs.declared.images.ImageParts.{ImageParts}
 use Rattle.cl_moves.specs.Standing.{first_node}
 use Rattle.cl_explore.specs.Ends.{Findings}
@@ -35,6 +35,15 @@ abbrev pub AddsOutcomes : ℕ → List Outcome → List ℕ → List ℕ → Typ
 AddsOutcomes number [] old new = new ≡ old
 AddsOutcomes number (outcome ∷ outcomes) old new =
     (mid : List ℕ) × AddsOutcome number outcome old mid × AddsOutcomes (number + 1) outcomes mid new
+
+-- `3 ends look like outcome 1`, of an outcome that two or more ends have
+abbrev pub ends_line : ℕ → ℕ → List ℕ
+ends_line number ends =
+    if nat_lt ends 2 then [] else (decimal ends ++ (codes " ends look like " ++ (outcome_number number ++ newline)))
+
+-- those of these outcomes, of which the first has this number, in their order
+abbrev pub ends_lines : ℕ → List Outcome → List ℕ
+ends_lines number told = flat_map (λ outcome. ends_line outcome.0 outcome.1.ends) (enumerate_from number told)
 
 -- `1 outcome`, `2 outcomes`
 abbrev pub count_text : ℕ → List ℕ → List ℕ
@@ -117,6 +126,7 @@ pub record Tells (image : ImageParts) (order : List ℕ) (states turns : ℕ) (t
   pub lines : AddsOutcomes 1 told [] body
   pub spelled : text
       ≡ body
+      ++ (ends_lines 1 told
       ++ (unending_line unending
-      ++ last_line (length told) (length (listed.found).kept) (listed.found).left long turns)
+      ++ last_line (length told) (length (listed.found).kept) (listed.found).left long turns))
   pub status_is : status ≡ findings_status order listed.found unending

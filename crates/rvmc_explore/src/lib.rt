@@ -4,6 +4,7 @@
 
 mod asked;
 mod closing;
+mod counting;
 mod differences;
 mod ends;
 mod heads;

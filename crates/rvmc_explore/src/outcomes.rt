@@ -1,7 +1,8 @@
 //! What is told of a search: its ends, and ranks that are stuck while others run on.
 
-ghost use Rattle.std.specs.Prelude.{◌≡◌, ◌<◌, ◌↔◌, IfOk, IsFalse, IsTrue, OnOk, length, true};
-ghost use Rattle.rvmc_explore.specs.Outcomes.{AddsNew, AreTold, AreToldBeside, AreToldEnds, HasBody, IsEndBody, IsStuckBody};
+ghost use Rattle.std.specs.Prelude.{◌≡◌, ◌<◌, ◌↔◌, IfNone, IfOk, IfSome, OnOk, length, true};
+ghost use Rattle.rvmc_explore.specs.InnerOutcomes.{AddsEnd, AddsStuck, AreToldBeside, AreToldEnds, CountsOne, HaveRoom, IsBodyAt};
+ghost use Rattle.rvmc_explore.specs.Outcomes.{AreTold, HasBody, IsEndBody, IsStuckBody};
 ghost use Rattle.rvmc_explore.specs.Searched.{IsWithin};
 ghost use Rattle.cl_explore.specs.Ends.{findings};
 
@@ -20,6 +21,8 @@ pub struct Outcome {
     pub node: usize,
     /// All that is told below its line.
     pub body: Vec<u8>,
+    /// How many of the ends that were found have this text: 0 if it is that of ranks that are stuck.
+    pub ends: usize,
 }
 
 /// All that is told of the end at the node of this number.
@@ -62,31 +65,60 @@ fn is_body(outcome: &Outcome, body: &[u8]) -> bool
     outcome.body.as_slice() == body
 }
 
-/// Whether this is the text of one of these.
-fn is_told(told: &[Outcome], body: &[u8]) -> bool
-    ensures there { IsTrue result → HasBody told.now body.now }
-    ensures new { IsFalse result → HasBody told.now body.now → ⊥ }
+/// The place of the outcome with this text.
+fn place_of(told: &[Outcome], body: &[u8]) -> Option<usize>
+    ensures there { IfSome result (IsBodyAt told.now body.now) }
+    ensures new { IfNone result (HasBody told.now body.now → ⊥) }
 {
     for place in 0..told.len() {
         if is_body(&told[place], body) {
-            return true;
+            return Some(place);
         }
     }
-    false
+    None
 }
 
-/// Adds what is told of a node, unless the same text is told already.
-fn add_new(told: &mut Vec<Outcome>, node: usize, body: Vec<u8>) -> Result<(), AllocError>
-    ensures { OnOk result (AddsNew told.old.items node body.items told.new.items) }
+/// Counts one end more of the outcome at this place.
+fn count_one(told: &mut [Outcome], place: usize)
+    requires inside { place < length told.old }
+    requires room { HaveRoom told.old }
+    ensures { CountsOne told.old place told.new }
 {
-    if is_told(told.as_slice(), body.as_slice()) {
-        return Ok(());
+    told[place].ends += 1;
+}
+
+/// Adds what is told of an end: if its text is told already, one end more has it.
+fn add_end(told: &mut Vec<Outcome>, node: usize, body: Vec<u8>) -> Result<(), AllocError>
+    requires { HaveRoom told.old.items }
+    ensures { OnOk result (AddsEnd told.old.items node body.items told.new.items) }
+{
+    match place_of(told.as_slice(), body.as_slice()) {
+        Some(place) => count_one(told.as_mut_slice(), place),
+        None => told.push(Outcome {
+            node,
+            body,
+            ends: 1,
+        })?,
     }
-    told.push(Outcome { node, body })?;
     Ok(())
 }
 
-/// Adds what is told of each end.
+/// Adds what is told of ranks that are stuck, unless the same text is told already.
+fn add_stuck(told: &mut Vec<Outcome>, node: usize, body: Vec<u8>) -> Result<(), AllocError>
+    ensures { OnOk result (AddsStuck told.old.items node body.items told.new.items) }
+{
+    if place_of(told.as_slice(), body.as_slice()).is_some() {
+        return Ok(());
+    }
+    told.push(Outcome {
+        node,
+        body,
+        ends: 0,
+    })?;
+    Ok(())
+}
+
+/// What is told of each end.
 fn tell_ends(
     alloc: Global,
     image: &Image,
@@ -100,7 +132,7 @@ fn tell_ends(
     for place in 0..found.ends.len() {
         let node = found.ends[place];
         let body = end_body(alloc, image, order, found, node)?;
-        add_new(&mut told, node, body)?;
+        add_end(&mut told, node, body)?;
     }
     Ok(told)
 }
@@ -122,11 +154,11 @@ fn tell_company(
         return Ok(());
     }
     let body = stuck_body(alloc, image, found, company)?;
-    add_new(told, company.node, body)
+    add_stuck(told, company.node, body)
 }
 
-/// All that is told: each end, and the ranks that are stuck in each node that leads to no end. No two have the same text,
-/// and the first with a text stands for all.
+/// All that is told: each end, and the ranks that are stuck in each node that leads to no end. No two have the same text:
+/// the first with a text stands for all, and says how many ends have it.
 pub(crate) fn tell(
     alloc: Global,
     image: &Image,

@@ -8,6 +8,7 @@ ghost use Rattle.rvmc_explore.specs.declared.outcomes.Outcome.{Outcome as Outcom
 
 use crate::asked::Asked;
 use crate::closing::last_line;
+use crate::counting::put_counts;
 use crate::heads::put_head;
 use crate::judging::search_status;
 use crate::outcomes::{Outcome, tell};
@@ -74,10 +75,11 @@ fn put_told(
 }
 
 /// What a search tells: of each end its ranks, and what each waits for that waits there; of ranks that are stuck while others
-/// run on what they wait for; of each the first message by which it differs from the first one; whether some runs go on for
-/// ever, to no end; in the last line whether these are all. No two have the same text. The status is 4 where they aren't all,
-/// else 3 where a hart trapped at an end, else 7 where a hart that takes turns waits at one, or some ranks are stuck, else 8
-/// where some runs go on for ever, else 0. Where that is wanted, lines on `err` say how far the search came.
+/// run on what they wait for; of each the first message by which it differs from the first one; behind them, of each that two
+/// or more ends have, how many do; whether some runs go on for ever, to no end; in the last line whether these are all. No two
+/// have the same text. The status is 4 where they aren't all, else 3 where a hart trapped at an end, else 7 where a hart that
+/// takes turns waits at one, or some ranks are stuck, else 8 where some runs go on for ever, else 0. Where that is wanted,
+/// lines on `err` say how far the search came.
 ///
 /// Refusals: Clock, Memory.
 pub fn explored<E: Write>(
@@ -103,6 +105,7 @@ pub fn explored<E: Write>(
     let told = tell(alloc, image, asked.order, &found)?;
     let mut text = Vec::new(alloc);
     put_told(alloc, &mut text, image, &found, told.as_slice())?;
+    put_counts(alloc, &mut text, told.as_slice())?;
     let unending = is_unending(alloc, &found)?;
     let line = unending_line(alloc, unending)?;
     text.extend_from_slice(line.as_bytes())?;

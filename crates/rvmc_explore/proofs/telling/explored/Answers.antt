@@ -2,7 +2,7 @@ use Rattle.std.proofs.Common.{List, [], ℕ, refl, ◌≡◌, ◌∙◌, ◌++�
 use Rattle.std.proofs.lemmas.List.{append_assoc}
 use Rattle.cl_explore.specs.Ends.{findings}
 use Rattle.cl_moves.specs.Standing.{first_node}
-use Rattle.rvmc_explore.specs.Telling.{AddsOutcomes, last_line, unending_line}
+use Rattle.rvmc_explore.specs.Telling.{AddsOutcomes, ends_lines, last_line, unending_line}
 use Rattle.rvmc_explore.proofs.Endless.{says_none_stuck}
 use Rattle.rvmc_explore.proofs.Listed.{within}
 use Rattle.rvmc_explore.proofs.telling.explored.Goals as goal
@@ -20,9 +20,12 @@ returns-clause-told g c =
     let found = c.in_ok-found.found in
     let told = c.in_ok-told.told.items in
     let body = c.put_told.new.text.items in
+    let counts = ends_lines 1 told in
     let line = unending_line c.in_ok-unending.unending in
     let last = last_line (length told) (length found.nodes.items) found.left found.long c.args.asked.now.turns in
-    let first : c.extend_from_slice.new.self.items ≡ body ++ line = search rules in
+    let counted : c.put_counts.new.text.items ≡ body ++ counts =
+    c.in_ok-put_counts.ensures ∙ ap (λ os. body ++ ends_lines 1 os) c.as_slice-2.ensures.value in
+    let first : c.extend_from_slice.new.self.items ≡ c.put_counts.new.text.items ++ line = search rules in
     let closed : c.extend_from_slice-2.new.self.items ≡ c.extend_from_slice.new.self.items ++ last = search rules in
     record {
       told = told;
@@ -39,6 +42,8 @@ returns-clause-told g c =
       body = body;
       lines = subst (λ (old : List ℕ). AddsOutcomes 1 told old body) c.new-text.ensures.items
           (subst (λ os. AddsOutcomes 1 os c.new-text.result.items body) c.as_slice.ensures.value c.in_ok-put_told.ensures);
-      spelled = closed ∙ (ap (λ text. text ++ last) first ∙ append_assoc body line last);
+      spelled = closed
+          ∙ (ap (λ text. text ++ last) (first ∙ ap (λ (text : List ℕ). text ++ line) counted)
+          ∙ (append_assoc (body ++ counts) line last ∙ append_assoc body counts (line ++ last)));
       status_is = search rules;
     }

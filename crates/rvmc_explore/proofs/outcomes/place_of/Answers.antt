@@ -4,11 +4,10 @@ use Rattle.std.proofs.lemmas.Option.{same_Some, slice_get_within}
 use Rattle.std.specs.Prelude.{Some, slice_get}
 use Rattle.cl_explore.proofs.Lists.{read_of}
 use Rattle.rvmc_explore.specs.declared.outcomes.Outcome.{Outcome}
-use Rattle.rvmc_explore.proofs.outcomes.is_told.Goals as goal
+use Rattle.rvmc_explore.proofs.outcomes.place_of.Goals as goal
 
 pub returns-then-is_body-clause-there : goal.returns-then-is_body-clause-there
-returns-then-is_body-clause-there c = λ is. (
-  c.loop-place.place,
+returns-then-is_body-clause-there c = (
   c.index-told-place.result,
   read_of c.args.told.now c.loop-place.place c.index-told-place.result c.loop-place-test.true c.index-told-place.is,
   c.is_body.ensures.0 c.if-is_body.true,
@@ -29,6 +28,6 @@ loop-place-preserved c = λ k outcome low at same. elim (cases_eq c.loop-place.p
 ]
 
 pub returns-clause-new : goal.returns-clause-new
-returns-clause-new c = λ is has.
+returns-clause-new c = λ has.
     let inside = slice_get_within c.args.told.now has.0 has.1 has.2 in
     c.loop-place.invariant has.0 has.1 (omega (arith, inside, c.loop-place-test.false)) has.2 has.3

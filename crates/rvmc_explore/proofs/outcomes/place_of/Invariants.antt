@@ -1,6 +1,6 @@
 use Rattle.std.proofs.Common.{ℕ, ◌≡◌, ◌<◌, Some, slice_get}
 use Rattle.rvmc_explore.specs.declared.outcomes.Outcome.{Outcome}
-use Rattle.rvmc_explore.proofs.outcomes.is_told.Given as goal
+use Rattle.rvmc_explore.proofs.outcomes.place_of.Given as goal
 
 -- none of those before has it
 abbrev pub invariant-loop-place : goal.invariant-loop-place
