@@ -1,4 +1,4 @@
--- What is told of the steps of a record that were checked.
+-- The line that `check` prints, and its status.
 use Rattle.std.specs.Prelude.{ℕ, List, ◌++◌, codes}
 use Rattle.std.specs.Fmt.{decimal}
 use Rattle.cl_check.specs.declared.checking.Verdict.{Verdict}
