@@ -12,3 +12,4 @@ pub mod Alike
 pub mod Ordering
 pub mod Fronts
 pub mod Below
+pub mod Hears

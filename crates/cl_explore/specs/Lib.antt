@@ -4,6 +4,7 @@ pub mod Covering
 pub mod Companies
 pub mod Searching
 pub mod Diving
+pub mod Listening
 pub mod Orders
 pub mod Ends
 pub mod Visiting

@@ -1,6 +1,7 @@
 //! What a search goes by.
 
 use cl_contests::Patterns;
+use rv_image_types::Image;
 use std::alloc::Global;
 
 /// The order of the harts of each rank, how many turns a rank takes by itself at once, and whether lines are wanted that say
@@ -24,10 +25,11 @@ pub(crate) enum Way {
     First,
 }
 
-/// The same as a course, and which turns are taken at once, by the patterns of all ranks where that matters.
+/// The same as a course, of which image, and which turns are taken at once, by the patterns of all ranks where that matters.
 #[derive(Clone, Copy, Drop)]
 pub(crate) struct Manner<'a> {
     pub alloc: Global,
+    pub image: &'a Image,
     pub order: &'a [u8],
     pub most: u64,
     pub progress: bool,

@@ -1,6 +1,6 @@
 //! The search from the loaded cluster on.
 
-ghost use Rattle.std.specs.Prelude.{◌≡◌, ◌⊎◌, ◌<◌, ◌≤◌, ◌-◌, ℕ, List, [], None, Some, IfErr, IfOk, IfSome, IsFalse, IsTrue, OnOk, false, is_some, length, reverse, slice_get, true};
+ghost use Rattle.std.specs.Prelude.{◌≡◌, ◌<◌, ℕ, List, [], None, Some, IfErr, IfOk, IfSome, IsTrue, OnOk, is_some, length, slice_get, true};
 ghost use Rattle.rv_image_types.specs.declared.images.ImageParts.{ImageParts};
 ghost use Rattle.cl_order_laws.specs.Closed.{Node};
 ghost use Rattle.cl_moves.specs.Standing.{IsWay, by_order, first_node};
@@ -10,19 +10,23 @@ ghost use Rattle.cl_contests.specs.Kept.{search_of};
 ghost use Rattle.cl_contests.specs.declared.patterns.AskedBy.{AskedBy};
 ghost use Rattle.cl_explore.specs.How.{HasRoom, IsHaltOf, at_once, by_contest, how_in, how_of, plainly};
 ghost use Rattle.cl_explore.specs.declared.course.Way.TheVariants as ways;
-ghost use Rattle.cl_explore.specs.Ends.{AreEnough, AreTurnsTo, BeginsAt, Explored, ExploredBehind, ExploredPlainly, ExploresFrom, HasLonger, IsBounded, IsLonger, Notes, StillExplores, findings};
+ghost use Rattle.cl_explore.specs.Ends.{AreTurnsTo, BeginsAt, Explored, ExploredBehind, ExploredPlainly, ExploresFrom, IsBounded, Notes, StillExplores, findings};
+ghost use Rattle.cl_explore.specs.Listening.{CameByOrder, IsEndNode, IsSearchOf};
 ghost use Rattle.cl_explore.specs.Visiting.{NotesVisit, findings_of};
 ghost use Rattle.cl_explore.specs.Orders.{OrderFaultHolds};
 ghost use Rattle.cl_lines.specs.Telling.{TellsProgress};
 
+use crate::bounds::{Bounds, goes_on, is_deep};
 use crate::companies::{Company, note_stuck};
 use crate::course::{Course, Manner, Way};
 use crate::halt::Halt;
 use crate::kept::KeptNode;
 use crate::leads::Lead;
+use crate::listening::{Deaf, Listener};
 use crate::moving::{Visit, settle};
 use crate::orders::{OrderFault, follow, turns_in};
 use crate::search::Search;
+use crate::stepping::steps_to;
 use cl_contests::{Patterns, add_waits, is_first_hart, may_start};
 use cl_lines::{Progress, put_progress};
 use cl_machine::Step;
@@ -38,10 +42,6 @@ const MOST_POSTS: u64 = 65535;
 
 /// How often a search begins again with more patterns: more often than there are patterns of all ranks.
 const MOST_PASSES: usize = 2048;
-
-/// Of how many nodes the moves are made at most of which one led to a new node by more turns of a rank's own than it was let
-/// take at once: a rank that counts would lead to new nodes without end.
-const DEEP_NODES: usize = 16;
 
 /// Where a search came.
 #[derive(Drop)]
@@ -60,41 +60,12 @@ pub struct Exploration {
     pub leads: Vec<Lead>,
 }
 
-/// Where a search comes to an end: once it has made the moves of so many nodes, or, where `enough` says so, so many are left;
-/// and which pass this is, from 1, since a search may begin again in another way.
-#[derive(Clone, Copy, Drop)]
-struct Bounds {
-    states: usize,
-    enough: Option<usize>,
-    pass: u64,
-}
-
-impl Bounds {
-    /// The same in the next pass.
-    fn next(self) -> Bounds
-        ensures states { result.states ≡ self.states }
-        ensures enough { result.enough ≡ self.enough }
-    {
-        Bounds {
-            states: self.states,
-            enough: self.enough,
-            pass: self.pass.saturating_add(1),
-        }
-    }
-}
-
-/// Whether a search goes on that made the moves of so many of these nodes.
-fn goes_on(enough: Option<usize>, done: usize, nodes: usize) -> bool
-    ensures more { IsTrue result → done < nodes }
-    ensures end { IsFalse result → (nodes ≤ done) ⊎ AreEnough enough (nodes - done) }
-{
-    if done >= nodes {
-        return false;
-    }
-    match enough {
-        None => true,
-        Some(least) => nodes - done < least,
-    }
+/// Where a search begins, in a cluster of this image, and where it comes to an end.
+#[derive(Drop)]
+struct Start<'a> {
+    image: &'a Image,
+    standing: Standing,
+    bounds: Bounds,
 }
 
 /// What is noted of the nodes whose moves were made.
@@ -134,17 +105,20 @@ fn begin(
 
 /// The moves of all nodes from a standing on, within bounds.
 #[tactic(auto, using(cl_lines::proofs::Behind::nothing_told))]
-fn search_nodes<E: Write>(
+fn search_nodes<L: Listener, E: Write>(
     course: &Manner<'_>,
     search: &mut Search,
     standing: &mut Standing,
     bounds: Bounds,
+    listener: &mut L,
     err: &mut E,
 ) -> Result<Option<Told>, Halt>
     requires order { 0 < length course.now.order.now }
     requires none { search.old.nodes.items ≡ [] }
     requires still { search.old.leads.items ≡ [] }
     requires room { HasRoom (how_in course.now) standing.old.whole }
+    requires came { CameByOrder course.now.image.now course.now.order.now standing.old }
+    requires holds { L.holds listener.old course.now.image.now course.now.order.now }
     ensures ends { IfOk result (λ o. IfSome o (λ told.
         ExploresFrom (how_in course.now) course.now.order.now standing.old (findings_of search.new told))) }
     ensures most { IfOk result (λ o. IfSome o (λ told.
@@ -152,27 +126,50 @@ fn search_nodes<E: Write>(
     ensures plain { course.now.way ≡ ways.Plainly → IfOk result (λ o. is_some o ≡ true) }
     ensures halt { IfErr result (IsHaltOf course.now.way) }
     ensures progress { TellsProgress course.now.progress (E.contents err.old) (E.contents err.new) }
+    ensures holds { L.holds listener.new course.now.image.now course.now.order.now }
 {
     let long = begin(course, search, standing)?;
-    match visit_each(course, search, long, bounds, err)? {
+    match visit_each(course, search, long, bounds, listener, err)? {
         None => Ok(None),
-        Some(told) => Ok(Some(follow_if_cut(course, search, told, bounds)?)),
+        Some(told) => Ok(Some(follow_if_cut(course, search, told, bounds, listener)?)),
     }
+}
+
+/// Tells the listener of the node of this number if it is an end.
+fn tell_end<L: Listener>(
+    course: &Manner<'_>,
+    nodes: &[KeptNode],
+    end: bool,
+    node: usize,
+    listener: &mut L,
+) -> Result<(), AllocError>
+    requires end { IsTrue end → IsEndNode course.now.image.now course.now.order.now nodes.now node }
+    requires holds { L.holds listener.old course.now.image.now course.now.order.now }
+    ensures { L.holds listener.new course.now.image.now course.now.order.now }
+{
+    if end {
+        listener.end(course.alloc, course.image, course.order, nodes, node)?;
+    }
+    Ok(())
 }
 
 /// Where a search was cut before it found an end, one schedule is followed from the first node that is left. Its end is told,
 /// and is one more node that is left.
-fn follow_if_cut(
+fn follow_if_cut<L: Listener>(
     course: &Manner<'_>,
     search: &mut Search,
     mut told: Told,
     bounds: Bounds,
+    listener: &mut L,
 ) -> Result<Told, MoveFault>
-    requires { 0 < length course.now.order.now }
+    requires order { 0 < length course.now.order.now }
+    requires of { IsSearchOf (how_in course.now) course.now.image.now course.now.order.now search.old }
+    requires holds { L.holds listener.old course.now.image.now course.now.order.now }
     ensures ends { IfOk result (λ after. StillExplores (how_in course.now) course.now.order.now
         (findings_of search.old told) (findings_of search.new after)) }
     ensures most { IfOk result (λ after. IsBounded bounds.states bounds.enough course.now.most search.old.nodes.items told.left
         → IsBounded bounds.states bounds.enough course.now.most search.new.nodes.items after.left) }
+    ensures holds { L.holds listener.new course.now.image.now course.now.order.now }
 {
     if bounds.enough.is_some() || told.left == 0 || !told.noted.ends.is_empty() {
         return Ok(told);
@@ -183,6 +180,7 @@ fn follow_if_cut(
     let Some(end) = search.dive(course, from)? else {
         return Ok(told);
     };
+    tell_end(course, search.nodes.as_slice(), true, end, listener)?;
     told.noted.ends.push(end)?;
     told.left = search.nodes.len().saturating_sub(from);
     Ok(told)
@@ -218,32 +216,6 @@ fn has_room_at(way: Way, nodes: &[KeptNode], node: usize) -> bool
         None => true,
         Some(kept) => has_room(way, &kept.whole),
     }
-}
-
-/// Whether a node was reached by more turns than so many.
-fn is_longer(kept: &KeptNode, most: u64) -> bool
-    ensures { IsTrue result → IsLonger most kept.now }
-{
-    kept.turns.are_more_than(most)
-}
-
-/// Whether one of the nodes was.
-fn has_longer(nodes: &[KeptNode], most: u64) -> bool
-    ensures { IsTrue result → HasLonger most nodes.now }
-{
-    for place in 0..nodes.len() {
-        if is_longer(&nodes[place], most) {
-            return true;
-        }
-    }
-    false
-}
-
-/// Whether the moves of as many deep nodes were made as are allowed.
-fn is_deep(deep: usize, nodes: &[KeptNode], most: u64) -> bool
-    ensures { IsTrue result → HasLonger most nodes.now }
-{
-    deep >= DEEP_NODES && has_longer(nodes, most)
 }
 
 /// Notes what is known of the node of this number.
@@ -286,14 +258,17 @@ fn tell_progress<E: Write>(
 /// The moves of one node after another are made, within bounds. None where calls for what is there are made at once, and a
 /// hub came to have too many posts for that.
 #[tactic(auto, using(cl_lines::proofs::Behind::nothing_told))]
-fn visit_each<E: Write>(
+fn visit_each<L: Listener, E: Write>(
     course: &Manner<'_>,
     search: &mut Search,
     long: Option<u8>,
     bounds: Bounds,
+    listener: &mut L,
     err: &mut E,
 ) -> Result<Option<Told>, Halt>
-    requires { 0 < length course.now.order.now }
+    requires order { 0 < length course.now.order.now }
+    requires of { IsSearchOf (how_in course.now) course.now.image.now course.now.order.now search.old }
+    requires holds { L.holds listener.old course.now.image.now course.now.order.now }
     ensures ends { IfOk result (λ o. IfSome o (λ told. (standing : StandingView) → HasRoom (how_in course.now) standing.whole
         → BeginsAt (how_in course.now) course.now.order.now standing search.old
         → ExploresFrom (how_in course.now) course.now.order.now standing (findings_of search.new told))) }
@@ -301,7 +276,10 @@ fn visit_each<E: Write>(
         IsBounded bounds.states bounds.enough course.now.most search.new.nodes.items told.left)) }
     ensures plain { course.now.way ≡ ways.Plainly → IfOk result (λ o. is_some o ≡ true) }
     ensures halt { IfErr result (IsHaltOf course.now.way) }
+    ensures of { IfOk result (λ o. IfSome o (λ told.
+        IsSearchOf (how_in course.now) course.now.image.now course.now.order.now search.new)) }
     ensures progress { TellsProgress course.now.progress (E.contents err.old) (E.contents err.new) }
+    ensures holds { L.holds listener.new course.now.image.now course.now.order.now }
 {
     let mut noted = Noted {
         ends: Vec::new(course.alloc),
@@ -318,6 +296,7 @@ fn visit_each<E: Write>(
             return Ok(None);
         }
         let visit = search.visit(course, done)?;
+        tell_end(course, search.nodes.as_slice(), visit.end, done, listener)?;
         note_visit(&mut noted, visit, done)?;
         done += 1;
         tell_progress(course, search, &noted, bounds.pass, done, err);
@@ -331,14 +310,17 @@ fn visit_each<E: Write>(
 /// have too many posts for that. The standing may be anything then. What ranks asked beside the patterns is left in
 /// `missing` where the search was halted for that.
 #[tactic(auto, using(cl_lines::proofs::Behind::nothing_told))]
-fn search_on<E: Write>(
+fn search_on<L: Listener, E: Write>(
     course: &Manner<'_>,
     standing: &mut Standing,
     bounds: Bounds,
     missing: &mut Patterns,
+    listener: &mut L,
     err: &mut E,
 ) -> Result<Option<Exploration>, Halt>
-    requires { 0 < length course.now.order.now }
+    requires order { 0 < length course.now.order.now }
+    requires came { CameByOrder course.now.image.now course.now.order.now standing.old }
+    requires holds { L.holds listener.old course.now.image.now course.now.order.now }
     ensures ends { IfOk result (λ o. IfSome o (λ found.
         ExploresFrom (how_in course.now) course.now.order.now standing.old (findings found))) }
     ensures most { IfOk result (λ o. IfSome o (λ found.
@@ -346,12 +328,13 @@ fn search_on<E: Write>(
     ensures plain { course.now.way ≡ ways.Plainly → IfOk result (λ o. is_some o ≡ true) }
     ensures halt { IfErr result (IsHaltOf course.now.way) }
     ensures progress { TellsProgress course.now.progress (E.contents err.old) (E.contents err.new) }
+    ensures holds { L.holds listener.new course.now.image.now course.now.order.now }
 {
     if !has_room(course.way, &standing.whole) {
         return Ok(None);
     }
     let mut search = Search::new(course.alloc)?;
-    let told = search_nodes(course, &mut search, standing, bounds, err);
+    let told = search_nodes(course, &mut search, standing, bounds, listener, err);
     let told = match told {
         Ok(Some(told)) => told,
         Ok(None) => return Ok(None),
@@ -372,32 +355,41 @@ fn search_on<E: Write>(
 
 /// The same in this way, by these patterns of all ranks. None too where a rank asked beside the patterns, which is left in
 /// `missing`, or where not all ranks may be let go at a cluster in which nobody goes first.
-fn search<E: Write>(
+fn search<L: Listener, E: Write>(
     course: &Course<'_>,
-    mut standing: Standing,
-    bounds: Bounds,
+    start: Start<'_>,
     way: Way,
     patterns: &Patterns,
     missing: &mut Patterns,
+    listener: &mut L,
     err: &mut E,
 ) -> Result<Option<Exploration>, MoveFault>
-    requires { 0 < length course.now.order.now }
+    requires order { 0 < length course.now.order.now }
+    requires came { CameByOrder start.image.now course.now.order.now start.standing }
+    requires holds { L.holds listener.old start.image.now course.now.order.now }
     ensures ends { IfOk result (λ o. IfSome o (λ found.
-        ExploresFrom (how_of way patterns.now.kept.items) course.now.order.now standing (findings found))) }
+        ExploresFrom (how_of way patterns.now.kept.items) course.now.order.now start.entry.standing (findings found))) }
     ensures most { IfOk result (λ o. IfSome o (λ found.
-        IsBounded bounds.states bounds.enough course.now.most found.nodes.items found.left)) }
+        IsBounded start.entry.bounds.states start.entry.bounds.enough course.now.most found.nodes.items found.left)) }
     ensures plain { way ≡ ways.Plainly → IfOk result (λ o. is_some o ≡ true) }
     ensures progress { TellsProgress course.now.progress (E.contents err.old) (E.contents err.new) }
+    ensures holds { L.holds listener.new start.entry.image.now course.now.order.now }
 {
+    let Start {
+        image,
+        mut standing,
+        bounds,
+    } = start;
     let manner = Manner {
         alloc: course.alloc,
+        image,
         order: course.order,
         most: course.most,
         progress: course.progress,
         way,
         patterns,
     };
-    match search_on(&manner, &mut standing, bounds, missing, err) {
+    match search_on(&manner, &mut standing, bounds, missing, listener, err) {
         Ok(found) => Ok(found),
         Err(Halt::Fault(fault)) => Err(fault),
         Err(Halt::Outside) => Ok(None),
@@ -405,53 +397,60 @@ fn search<E: Write>(
 }
 
 /// The same with calls for what is there made at once.
-fn search_at_once<E: Write>(
+fn search_at_once<L: Listener, E: Write>(
     course: &Course<'_>,
-    standing: Standing,
-    bounds: Bounds,
+    start: Start<'_>,
+    listener: &mut L,
     err: &mut E,
 ) -> Result<Option<Exploration>, MoveFault>
-    requires { 0 < length course.now.order.now }
-    ensures ends { IfOk result (λ o. IfSome o (λ found. ExploresFrom at_once course.now.order.now standing (findings found))) }
+    requires order { 0 < length course.now.order.now }
+    requires came { CameByOrder start.image.now course.now.order.now start.standing }
+    requires holds { L.holds listener.old start.image.now course.now.order.now }
+    ensures ends { IfOk result (λ o. IfSome o (λ found.
+        ExploresFrom at_once course.now.order.now start.entry.standing (findings found))) }
     ensures most { IfOk result (λ o. IfSome o (λ found.
-        IsBounded bounds.states bounds.enough course.now.most found.nodes.items found.left)) }
+        IsBounded start.entry.bounds.states start.entry.bounds.enough course.now.most found.nodes.items found.left)) }
     ensures progress { TellsProgress course.now.progress (E.contents err.old) (E.contents err.new) }
+    ensures holds { L.holds listener.new start.entry.image.now course.now.order.now }
 {
     let none = Patterns::new(course.alloc);
     let mut missing = Patterns::new(course.alloc);
     search(
         course,
-        standing,
-        bounds,
+        start,
         Way::AtOnce,
         &none,
         &mut missing,
+        listener,
         err,
     )
 }
 
 /// The same without them.
-fn search_plainly<E: Write>(
+fn search_plainly<L: Listener, E: Write>(
     course: &Course<'_>,
-    standing: Standing,
-    bounds: Bounds,
+    start: Start<'_>,
+    listener: &mut L,
     err: &mut E,
 ) -> Result<Exploration, MoveFault>
-    requires { 0 < length course.now.order.now }
-    ensures ends { IfOk result (λ found. ExploresFrom plainly course.now.order.now standing (findings found)) }
+    requires order { 0 < length course.now.order.now }
+    requires came { CameByOrder start.image.now course.now.order.now start.standing }
+    requires holds { L.holds listener.old start.image.now course.now.order.now }
+    ensures ends { IfOk result (λ found. ExploresFrom plainly course.now.order.now start.entry.standing (findings found)) }
     ensures most { IfOk result (λ found.
-        IsBounded bounds.states bounds.enough course.now.most found.nodes.items found.left) }
+        IsBounded start.entry.bounds.states start.entry.bounds.enough course.now.most found.nodes.items found.left) }
     ensures progress { TellsProgress course.now.progress (E.contents err.old) (E.contents err.new) }
+    ensures holds { L.holds listener.new start.entry.image.now course.now.order.now }
 {
     let none = Patterns::new(course.alloc);
     let mut missing = Patterns::new(course.alloc);
     match search(
         course,
-        standing,
-        bounds,
+        start,
         Way::Plainly,
         &none,
         &mut missing,
+        listener,
         err,
     )? {
         Some(found) => Ok(found),
@@ -465,21 +464,24 @@ fn search_plainly<E: Write>(
 ///
 /// Refusals: NoTurn where the machine has no such turn there, Clock, Memory.
 #[tactic(auto, using(cl_lines::proofs::Behind::nothing_told))]
-fn search_by_patterns<E: Write>(
+fn search_by_patterns<L: Listener, E: Write>(
     course: &Course<'_>,
     image: &Image,
     turns: &[Turn],
     states: usize,
     pass: &mut u64,
+    listener: &mut L,
     err: &mut E,
 ) -> Result<Option<Exploration>, OrderFault>
-    requires { 0 < length course.now.order.now }
+    requires order { 0 < length course.now.order.now }
+    requires holds { L.holds listener.old image.now course.now.order.now }
     ensures ends { IfOk result (λ o. IfSome o (λ found.
         ExploredBehind image.now course.now.order.now turns.now (findings found))) }
     ensures most { IfOk result (λ o. IfSome o (λ found.
         IsBounded states None course.now.most found.nodes.items found.left)) }
     ensures fault { IfErr result (OrderFaultHolds image.now course.now.order.now turns.now) }
     ensures progress { TellsProgress course.now.progress (E.contents err.old) (E.contents err.new) }
+    ensures holds { L.holds listener.new image.now course.now.order.now }
 {
     if image.parts().harts != 1 || !is_first_hart(course.order) {
         return Ok(None);
@@ -497,13 +499,18 @@ fn search_by_patterns<E: Write>(
         if !may_start(&standing) {
             return Ok(None);
         }
-        let found = search(
-            course,
+        let start = Start {
+            image,
             standing,
             bounds,
+        };
+        let found = search(
+            course,
+            start,
             Way::First,
             &patterns,
             &mut missing,
+            listener,
             err,
         )?;
         if found.is_some() {
@@ -524,19 +531,25 @@ fn search_by_patterns<E: Write>(
 /// stuck than in one of the nodes. Some are left only where the moves of as many as were allowed have been made, or where a
 /// rank took more turns by itself than it was let at once. Where that is wanted, lines on `err` say how far it came.
 ///
+/// The listener is told of each end as soon as it is found, also of those that are found before the search begins again with
+/// more patterns, whose nodes aren't in what is answered.
+///
 /// Refusals: Clock, Memory.
-pub fn explore<E: Write>(
+pub fn explore<L: Listener, E: Write>(
     course: &Course<'_>,
     image: &Image,
     states: usize,
+    listener: &mut L,
     err: &mut E,
 ) -> Result<Exploration, MoveFault>
-    requires { 0 < length course.now.order.now }
+    requires order { 0 < length course.now.order.now }
+    requires holds { L.holds listener.old image.now course.now.order.now }
     ensures ends { IfOk result (λ found. Explored image.now course.now.order.now (findings found)) }
     ensures most { IfOk result (λ found. IsBounded states None course.now.most found.nodes.items found.left) }
     ensures progress { TellsProgress course.now.progress (E.contents err.old) (E.contents err.new) }
+    ensures holds { L.holds listener.new image.now course.now.order.now }
 {
-    match explore_from(course, image, &[], states, err) {
+    match explore_from(course, image, &[], states, listener, err) {
         Ok(found) => Ok(found),
         Err(OrderFault::Move(fault)) => Err(fault),
         Err(OrderFault::NoTurn(_)) => unreachable!(),
@@ -547,21 +560,26 @@ pub fn explore<E: Write>(
 ///
 /// Refusals: NoTurn where the machine has no such turn there, Clock, Memory.
 #[tactic(auto, using(cl_lines::proofs::Behind::nothing_told))]
-pub fn explore_from<E: Write>(
+pub fn explore_from<L: Listener, E: Write>(
     course: &Course<'_>,
     image: &Image,
     turns: &[Turn],
     states: usize,
+    listener: &mut L,
     err: &mut E,
 ) -> Result<Exploration, OrderFault>
-    requires { 0 < length course.now.order.now }
+    requires order { 0 < length course.now.order.now }
+    requires holds { L.holds listener.old image.now course.now.order.now }
     ensures ends { IfOk result (λ found. ExploredBehind image.now course.now.order.now turns.now (findings found)) }
     ensures most { IfOk result (λ found. IsBounded states None course.now.most found.nodes.items found.left) }
     ensures fault { IfErr result (OrderFaultHolds image.now course.now.order.now turns.now) }
     ensures progress { TellsProgress course.now.progress (E.contents err.old) (E.contents err.new) }
+    ensures holds { L.holds listener.new image.now course.now.order.now }
 {
     let mut pass = 1;
-    if let Some(found) = search_by_patterns(course, image, turns, states, &mut pass, err)? {
+    if let Some(found) = search_by_patterns(
+        course, image, turns, states, &mut pass, listener, err,
+    )? {
         return Ok(found);
     }
     let bounds = Bounds {
@@ -570,11 +588,21 @@ pub fn explore_from<E: Write>(
         pass,
     };
     let standing = follow(course, image, turns)?;
-    if let Some(found) = search_at_once(course, standing, bounds, err)? {
+    let start = Start {
+        image,
+        standing,
+        bounds,
+    };
+    if let Some(found) = search_at_once(course, start, listener, err)? {
         return Ok(found);
     }
     let again = follow(course, image, turns)?;
-    let found = search_plainly(course, again, bounds.next(), err)?;
+    let start = Start {
+        image,
+        standing: again,
+        bounds: bounds.next(),
+    };
+    let found = search_plainly(course, start, listener, err)?;
     Ok(found)
 }
 
@@ -603,20 +631,12 @@ pub fn split<E: Write>(
         enough: Some(least),
         pass: 1,
     };
-    search_plainly(course, standing, bounds, err)
-}
-
-/// The same steps, the last one first.
-fn turned(alloc: Global, mut back: Vec<Step>) -> Result<Vec<Step>, AllocError>
-    ensures { IfOk result (λ steps. steps.items ≡ reverse back.items) }
-{
-    let mut steps = Vec::with_capacity(alloc, back.len())?;
-    'rest: loop {
-        match back.pop() {
-            None => return Ok(steps),
-            Some(step) => steps.push(step)?,
-        }
-    }
+    let start = Start {
+        image,
+        standing,
+        bounds,
+    };
+    search_plainly(course, start, &mut Deaf, err)
 }
 
 impl Exploration {
@@ -627,22 +647,7 @@ impl Exploration {
             → AreNodes image order self.now.nodes.items nodes → slice_get nodes node ≡ Some here
             → IfOk result (λ steps. IsWay (by_order order) (first_node image) steps.items here) }
     {
-        let mut back = Vec::new(alloc);
-        let mut at = node;
-        'rest: loop {
-            if at >= self.nodes.len() {
-                return Ok(Vec::new(alloc));
-            }
-            let kept = &self.nodes[at];
-            kept.turns.go_back(alloc, &mut back)?;
-            if at == 0 {
-                return turned(alloc, back);
-            }
-            if kept.parent >= at {
-                return Ok(Vec::new(alloc));
-            }
-            at = kept.parent;
-        }
+        steps_to(alloc, self.nodes.as_slice(), node)
     }
 
     /// The same as an order: whose turn each is, and whether it looks at a box and doesn't see what may be in it. The only

@@ -7,6 +7,7 @@
 
 mod alike_boxes;
 mod alike_harts;
+mod bounds;
 mod candidates;
 mod companies;
 mod course;
@@ -16,17 +17,21 @@ mod halt;
 mod kept;
 mod leads;
 mod likeness;
+mod listening;
 mod moving;
 mod orders;
 mod runs;
 mod search;
 mod sorting;
+mod stepping;
 
 pub use companies::Company;
 pub use course::Course;
 pub use exploring::{Exploration, explore, explore_from, split};
 pub use kept::KeptNode;
 pub use leads::Lead;
+pub use listening::{Deaf, Listener};
 pub use orders::OrderFault;
 pub use runs::Runs;
 pub use sorting::in_order;
+pub use stepping::steps_to;

@@ -74,29 +74,35 @@ fn report_hint(line: &CommandLine, text: &[u8], status: u8) -> Option<RunHint> {
     spent_hint(line, status)
 }
 
-/// What can be told of a search that left states, as the end of its text says.
-fn left_hint(states: u64, turns: u64, text: &[u8]) -> Option<RunHint> {
-    if text.ends_with(b" states are left\n") {
-        match next_bound(states) {
-            Some(states) => Some(RunHint::States(states)),
-            None => Some(RunHint::StatesAll),
-        }
-    } else if text.ends_with(b" turns alone\n") {
-        Some(RunHint::Turns(next_bound(turns)?))
-    } else {
-        None
-    }
-}
-
-/// What can be told of a text that is no report.
-fn text_hint(line: &CommandLine, text: &[u8]) -> Option<RunHint> {
+/// The larger bound that can be told of a search that left states: `long` says that a rank took more turns by itself than it
+/// was let; else the moves of as many states as are allowed were made.
+fn left_hint(line: &CommandLine, long: bool) -> Option<RunHint> {
     let CommandLine::OfImage { command, .. } = line else {
         return None;
     };
     match command {
         ImageCommand::Explore { states, turns, .. }
-        | ImageCommand::ExploreFrom { states, turns, .. } => left_hint(*states, *turns, text),
+        | ImageCommand::ExploreFrom { states, turns, .. } => {
+            if long {
+                return Some(RunHint::Turns(next_bound(*turns)?));
+            }
+            match next_bound(*states) {
+                Some(states) => Some(RunHint::States(states)),
+                None => Some(RunHint::StatesAll),
+            }
+        }
         _ => None,
+    }
+}
+
+/// What can be told of a text that is no report: of a search that left states, as the end of its text says.
+fn text_hint(line: &CommandLine, text: &[u8]) -> Option<RunHint> {
+    if text.ends_with(b" states are left\n") {
+        left_hint(line, false)
+    } else if text.ends_with(b" turns alone\n") {
+        left_hint(line, true)
+    } else {
+        None
     }
 }
 
@@ -131,6 +137,26 @@ pub fn tell_run_hint<E: Write>(
     ensures { AppendsHint (E.contents err.old) (E.contents err.new) }
 {
     if let Some(hint) = run_hint(line, output, status) {
+        put_run_hint(alloc, err, hint);
+    }
+}
+
+/// Writes what can be told beside what a search of this status wrote as it was found, if there is anything: where it left
+/// states, which larger bound goes further.
+#[tactic(auto, using(crate::proofs::Quiet::unhinted, crate::proofs::Quiet::kept))]
+pub fn tell_search_hint<E: Write>(
+    alloc: Global,
+    line: &CommandLine,
+    long: bool,
+    status: u8,
+    err: &mut E,
+)
+    ensures { AppendsHint (E.contents err.old) (E.contents err.new) }
+{
+    if status != 4 {
+        return;
+    }
+    if let Some(hint) = left_hint(line, long) {
         put_run_hint(alloc, err, hint);
     }
 }

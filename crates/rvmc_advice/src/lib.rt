@@ -6,6 +6,6 @@ mod failing;
 mod hints;
 mod mistyped;
 
-pub use beside::{tell_run_hint, tell_wait};
+pub use beside::{tell_run_hint, tell_search_hint, tell_wait};
 pub use failing::{fail, fail_to_read, fail_with_hint};
 pub use mistyped::hint_words;

@@ -6,3 +6,5 @@ pub mod OneList
 pub mod ToEnds
 pub mod EachStart
 pub mod Apart
+pub mod Heard
+pub mod Places

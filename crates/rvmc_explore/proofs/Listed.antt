@@ -1,23 +1,29 @@
 -- Outcomes, one behind another.
-use Rattle.std.specs.Prelude.{ℕ, suc, ◌+◌, ◌^◌, ◌<◌, ◌≤◌, ◌≡◌, ◌⊎◌, List, [], ◌∷◌, ◌++◌, Bool, true, false, cond, drop, length, slice_get, slice_set, Some}
+use Rattle.std.specs.Prelude.{ℕ, zero, suc, ◌+◌, ◌^◌, ◌<◌, ◌≤◌, ◌≡◌, ◌⊎◌, List, [], ◌∷◌, ◌++◌, Bool, true, false, cond, drop, length, map, slice_get, slice_set, Some}
 use Rattle.std.specs.Str.{bytes_eq}
 use Rattle.std.proofs.Common.{refl, sym, ap, ◌∙◌, subst, arith, drop-cons, inl, inr}
 use Rattle.std.proofs.lemmas.Bool.{cases_eq}
-use Rattle.std.proofs.lemmas.List.{drop_all, length-append}
+use Rattle.std.proofs.lemmas.List.{append-nil, append_assoc, drop_all, length-append, map-append}
 use Rattle.std.proofs.lemmas.List.Sums.{count_by-le-length, sum_by-cons, sum_by_push}
 use Rattle.std.proofs.lemmas.Option.{get_or_from_slice_get, same_Some, slice_get_within}
 use Rattle.std.proofs.lemmas.Slice.Eq.{bytes_eq-Decides}
 use Rattle.rv_image_types.specs.Image.{IsImage}
 use Rattle.rv_image_types.specs.declared.images.ImageParts.{ImageParts}
 use Rattle.cl_order_laws.specs.Closed.{Node}
+use Rattle.cl_moves.specs.Standing.{IsWay, by_order, first_node}
 use Rattle.cl_machine.proofs.Lists.{get-set_other, get-set_same}
 use Rattle.cl_explore.proofs.Lists.{at_inside, at_last, stays_at, was_or_new}
+use Rattle.cl_explore.specs.Covering.{AreNodes}
+use Rattle.cl_explore.specs.Diving.{IsEndAt}
 use Rattle.cl_explore.specs.Ends.{ExploredFrom, Findings}
 use Rattle.cl_explore.specs.declared.companies.Company.{Company}
+use Rattle.cl_explore.specs.declared.kept.KeptNode.{KeptNode}
+use Rattle.cl_replay.specs.States.{ClusterStandsFor}
 use Rattle.rvmc_starts.specs.declared.parts.EndText.{EndText}
-use Rattle.rvmc_explore.specs.InnerOutcomes.{AddsEnd, AddsOne, AddsStuck, AreToldBeside, AreToldEnds, HaveRoom, one_end_more}
-use Rattle.rvmc_explore.specs.Outcomes.{AreApart, AreCounted, AreTold, HasBody, IsEndBody, IsEndOutcome, IsOutcome, IsStuckBody, TellsStuck, ends_with}
-use Rattle.rvmc_explore.specs.Searched.{AreSound, GoesTo, IsWithin}
+use Rattle.rvmc_explore.specs.Ends.{IsEndText}
+use Rattle.rvmc_explore.specs.InnerOutcomes.{AddsEnd, AddsOne, AddsStuck, AreHeard, AreToldBeside, AreToldEnds, BeginsWith, HaveRoom, IsOutcomeOf, bodies_told, one_end_more}
+use Rattle.rvmc_explore.specs.Outcomes.{AreApart, AreCounted, AreTold, HasBody, IsEndBody, IsEndOutcome, IsOutcome, IsStuckBody, LeadThere, TellsStuck, ends_with}
+use Rattle.rvmc_explore.specs.Searched.{AreSound, GoesTo, IsExplored, IsWithin}
 use Rattle.rvmc_explore.specs.Starting.{AreEndsTold, IsEndTold}
 use Rattle.rvmc_explore.specs.Telling.{AddsOutcome, AddsOutcomes}
 use Rattle.rvmc_explore.specs.declared.outcomes.Outcome.{Outcome}
@@ -44,68 +50,83 @@ record Grows (old new : List Outcome) (body : List ℕ) : Type 0 where
   stays : (text : List ℕ) → HasBody old text → HasBody new text
   here : HasBody new body
   still_apart : AreApart old → AreApart new
+  begins : (first : List Outcome) → BeginsWith first old → BeginsWith first new
 
--- by an outcome behind the others
-module _ (old new : List Outcome) (node : ℕ) (body : List ℕ) (ends : ℕ) (adds : AddsOne old node body ends new) where
-  abbrev added : Outcome
-  added = (adds.1).0
-
-  was_or_added : (k : ℕ) (outcome : Outcome) → slice_get new k ≡ Some outcome
+-- by an outcome behind the others, none of which has its text
+module _ (old new : List Outcome) (added : Outcome) (unlike : HasBody old added.body.items → ⊥)
+    (is : new ≡ old ++ added ∷ []) where
+  pub was_or_added : (k : ℕ) (outcome : Outcome) → slice_get new k ≡ Some outcome
       → (slice_get old k ≡ Some outcome) ⊎ ((k ≡ length old) × (added ≡ outcome))
   was_or_added k outcome at =
-      elim (was_or_new old added k outcome (subst (λ os. slice_get os k ≡ Some outcome) (adds.1).4 at)) [
+      elim (was_or_new old added k outcome (subst (λ os. slice_get os k ≡ Some outcome) is at)) [
         | inl was ↦ inl was
         | inr last ↦ inr (last.0, same_Some added outcome last.1)
       ]
 
-  -- it was there, or it has this text
-  was_one : (k : ℕ) (outcome : Outcome) → slice_get new k ≡ Some outcome
-      → (slice_get old k ≡ Some outcome)
-      ⊎ ((outcome.node ≡ node) × (outcome.body.items ≡ body) × (outcome.ends ≡ ends))
-  was_one k outcome at = elim (was_or_added k outcome at) [
-    | inl was ↦ inl was
-    | inr last ↦ inr (
-      ap (λ (o : Outcome). o.node) (sym last.1) ∙ (adds.1).1,
-      ap (λ (o : Outcome). o.body.items) (sym last.1) ∙ (adds.1).2,
-      ap (λ (o : Outcome). o.ends) (sym last.1) ∙ (adds.1).3,
-    )
-  ]
-
-  added_apart : AreApart old → AreApart new
+  pub added_apart : AreApart old → AreApart new
   added_apart apart i j one other at there equal = elim (was_or_added i one at) [
     | inl first ↦ elim (was_or_added j other there) [
       | inl second ↦ apart i j one other first second equal
-      | inr last ↦ absurd (adds.0 (i, one, first, equal ∙ (ap (λ (o : Outcome). o.body.items) (sym last.1) ∙ (adds.1).2)))
+      | inr last ↦ absurd (unlike (i, one, first, equal ∙ ap (λ (o : Outcome). o.body.items) (sym last.1)))
     ]
     | inr last ↦ elim (was_or_added j other there) [
-      | inl second ↦
-          absurd (adds.0 (j, other, second, sym equal ∙ (ap (λ (o : Outcome). o.body.items) (sym last.1) ∙ (adds.1).2)))
+      | inl second ↦ absurd (unlike (j, other, second, sym equal ∙ ap (λ (o : Outcome). o.body.items) (sym last.1)))
       | inr again ↦ last.0 ∙ sym again.0
     ]
   ]
 
-  by_one : Grows old new body
-  by_one = record {
+  by_added : Grows old new added.body.items
+  by_added = record {
     stays = λ text has. (
       has.0,
       has.1,
-      subst (λ os. slice_get os has.0 ≡ Some has.1) (sym (adds.1).4) (stays_at old added has.0 has.1 has.2),
+      subst (λ os. slice_get os has.0 ≡ Some has.1) (sym is) (stays_at old added has.0 has.1 has.2),
       has.3,
     );
     here = (
       length old,
       added,
-      subst (λ os. slice_get os (length old) ≡ Some added) (sym (adds.1).4) (at_last old added),
-      (adds.1).2,
+      subst (λ os. slice_get os (length old) ≡ Some added) (sym is) (at_last old added),
+      refl,
     );
     still_apart = added_apart;
+    begins = λ first (more, begun). (
+      more ++ added.body.items ∷ [],
+      ap bodies_told is ∙ map-append (λ (o : Outcome). o.body.items) old (added ∷ [])
+          ∙ ap (λ bs. bs ++ added.body.items ∷ []) begun ∙ append_assoc (bodies_told first) more (added.body.items ∷ []),
+    );
   }
+
+module _ (kept : List KeptNode) (old new : List Outcome) (node : ℕ) (body : List ℕ) (ends : ℕ)
+    (adds : AddsOne kept old node body ends new) where
+  unlike_others : HasBody old ((adds.1).0).body.items → ⊥
+  unlike_others has = adds.0 (subst (HasBody old) (((adds.1).1).body_is) has)
+
+  -- it was there, or it is this one
+  was_one : (k : ℕ) (outcome : Outcome) → slice_get new k ≡ Some outcome
+      → (slice_get old k ≡ Some outcome) ⊎ IsOutcomeOf kept node body ends outcome
+  was_one k outcome at = elim (was_or_added old new (adds.1).0 unlike_others (adds.1).2 k outcome at) [
+    | inl was ↦ inl was
+    | inr last ↦ inr (subst (IsOutcomeOf kept node body ends) last.1 (adds.1).1)
+  ]
+
+  by_one : Grows old new body
+  by_one = subst (Grows old new) (((adds.1).1).body_is) (by_added old new (adds.1).0 unlike_others (adds.1).2)
 
 -- an outcome that is there was there before, but for how many ends it has
 abbrev WasAt : List Outcome → ℕ → Outcome → Type 0
 WasAt old k outcome =
-    (before : Outcome) × (slice_get old k ≡ Some before) × (before.node ≡ outcome.node)
+    (before : Outcome) × (slice_get old k ≡ Some before) × (before.way ≡ outcome.way)
     × (before.body.items ≡ outcome.body.items)
+
+-- other counts leave the texts as they are
+same_bodies : (told : List Outcome) (place : ℕ) (one other : Outcome) → slice_get told place ≡ Some one
+    → other.body.items ≡ one.body.items → bodies_told (slice_set told place other) ≡ bodies_told told
+same_bodies [] place one other at same = absurd (cc)
+same_bodies (x ∷ told) zero one other at same =
+    ap (λ b. b ∷ bodies_told told) (same ∙ ap (λ (o : Outcome). o.body.items) (sym (same_Some x one at)))
+same_bodies (x ∷ told) (suc place) one other at same =
+    ap (λ bs. x.body.items ∷ bs) (same_bodies told place one other at same)
 
 -- by one end more of the outcome at a place
 module _ (old new : List Outcome) (place : ℕ) (one : Outcome) (at_place : slice_get old place ≡ Some one)
@@ -132,7 +153,7 @@ module _ (old new : List Outcome) (place : ℕ) (one : Outcome) (at_place : slic
     | inl here ↦ (
       one,
       subst (λ n. slice_get old n ≡ Some one) here.0 at_place,
-      ap (λ (o : Outcome). o.node) here.1,
+      ap (λ (o : Outcome). o.way) here.1,
       ap (λ (o : Outcome). o.body.items) here.1,
     )
     | inr other ↦ (outcome, other.1, refl, refl)
@@ -155,43 +176,72 @@ module _ (old new : List Outcome) (place : ℕ) (one : Outcome) (at_place : slic
         let first = was_there i this here in
         let second = was_there j other there in
         apart i j first.0 second.0 first.1 second.1 (first.3 ∙ (equal ∙ sym second.3));
+    begins = λ first (more, begun). (
+      more,
+      ap bodies_told is ∙ same_bodies old place one (one_end_more one) at_place refl ∙ begun,
+    );
   }
 
-by_end : (old new : List Outcome) (node : ℕ) (body : List ℕ) → AddsEnd old node body new → Grows old new body
-by_end old new node body (inl (place, at, counts)) = by_count old new place at.0 at.1 (counts at.0 at.1) body at.2
-by_end old new node body (inr adds) = by_one old new node body 1 adds
+by_end : (kept : List KeptNode) (old new : List Outcome) (node : ℕ) (body : List ℕ) → AddsEnd kept old node body new
+    → Grows old new body
+by_end kept old new node body (inl (place, at, counts)) = by_count old new place at.0 at.1 (counts at.0 at.1) body at.2
+by_end kept old new node body (inr adds) = by_one kept old new node body 1 adds
 
-was_end : (old new : List Outcome) (node : ℕ) (body : List ℕ) → AddsEnd old node body new → (k : ℕ) (outcome : Outcome)
-    → slice_get new k ≡ Some outcome → WasAt old k outcome ⊎ ((outcome.node ≡ node) × (outcome.body.items ≡ body))
-was_end old new node body (inl (place, at, counts)) k outcome there =
+was_end : (kept : List KeptNode) (old new : List Outcome) (node : ℕ) (body : List ℕ) → AddsEnd kept old node body new
+    → (k : ℕ) (outcome : Outcome) → slice_get new k ≡ Some outcome
+    → WasAt old k outcome ⊎ IsOutcomeOf kept node body 1 outcome
+was_end kept old new node body (inl (place, at, counts)) k outcome there =
     inl (was_there old new place at.0 at.1 (counts at.0 at.1) k outcome there)
-was_end old new node body (inr adds) k outcome there = elim (was_one old new node body 1 adds k outcome there) [
+was_end kept old new node body (inr adds) k outcome there = elim (was_one kept old new node body 1 adds k outcome there) [
   | inl was ↦ inl (outcome, was, refl, refl)
-  | inr one ↦ inr (one.0, one.1)
+  | inr one ↦ inr one
 ]
 
-by_stuck : (old new : List Outcome) (node : ℕ) (body : List ℕ) → AddsStuck old node body new → Grows old new body
-by_stuck old new node body (inl same) = record {
+by_stuck : (kept : List KeptNode) (old new : List Outcome) (node : ℕ) (body : List ℕ) → AddsStuck kept old node body new
+    → Grows old new body
+by_stuck kept old new node body (inl same) = record {
   stays = λ text has. subst (λ os. HasBody os text) (sym same.1) has;
   here = subst (λ os. HasBody os body) (sym same.1) same.0;
   still_apart = λ apart. subst AreApart (sym same.1) apart;
+  begins = λ first begun. subst (BeginsWith first) (sym same.1) begun;
 }
-by_stuck old new node body (inr adds) = by_one old new node body 0 adds
+by_stuck kept old new node body (inr adds) = by_one kept old new node body 0 adds
 
-was_stuck : (old new : List Outcome) (node : ℕ) (body : List ℕ) → AddsStuck old node body new → (k : ℕ) (outcome : Outcome)
-    → slice_get new k ≡ Some outcome
-    → (slice_get old k ≡ Some outcome) ⊎ ((outcome.node ≡ node) × (outcome.body.items ≡ body) × (outcome.ends ≡ 0))
-was_stuck old new node body (inl same) k outcome at = inl (subst (λ os. slice_get os k ≡ Some outcome) same.1 at)
-was_stuck old new node body (inr adds) k outcome at = was_one old new node body 0 adds k outcome at
+was_stuck : (kept : List KeptNode) (old new : List Outcome) (node : ℕ) (body : List ℕ) → AddsStuck kept old node body new
+    → (k : ℕ) (outcome : Outcome) → slice_get new k ≡ Some outcome
+    → (slice_get old k ≡ Some outcome) ⊎ IsOutcomeOf kept node body 0 outcome
+was_stuck kept old new node body (inl same) k outcome at = inl (subst (λ os. slice_get os k ≡ Some outcome) same.1 at)
+was_stuck kept old new node body (inr adds) k outcome at = was_one kept old new node body 0 adds k outcome at
 
 -- an end's outcome is one, however many ends it has
-of_same_end : (order : List ℕ) (image : ImageParts) (found : Findings) (one other : Outcome) → one.node ≡ other.node
-    → one.body.items ≡ other.body.items → IsEndOutcome order image found one → IsEndOutcome order image found other
-of_same_end order image found one other node body ((k, at), is) = (
-  (k, at ∙ ap (λ n. Some n) node),
-  subst (λ n. IsEndBody order image found.kept n other.body.items) node
-      (subst (IsEndBody order image found.kept one.node) body is),
-)
+of_same_end : (order : List ℕ) (image : ImageParts) (one other : Outcome) → one.way ≡ other.way
+    → one.body.items ≡ other.body.items → IsEndOutcome order image one → IsEndOutcome order image other
+of_same_end order image one other way body is = record {
+  node = is.node;
+  led = subst (λ es. IsWay (by_order order) (first_node image) es is.node) way is.led;
+  end = is.end;
+  state = is.state;
+  stands = is.stands;
+  told = subst (IsEndText order image is.state []) body is.told;
+}
+
+-- what turns lead to where nobody goes on, and whose text is told there, is one of an end
+pub end_outcome : (order : List ℕ) (image : ImageParts) (kept : List KeptNode) (nodes : List Node)
+    → AreNodes image order kept nodes → (number : ℕ) → IsEndAt order nodes number → (outcome : Outcome)
+    → LeadThere kept number outcome.way → IsEndBody order image kept number outcome.body.items
+    → IsEndOutcome order image outcome
+end_outcome order image kept nodes are number end outcome leads body =
+    let it = body.is in
+    let v = are.each number it.what it.there in
+    let same : v.0 ≡ end.0 = same_Some v.0 end.0 (sym v.1 ∙ end.1) in
+    record {
+      node = end.0;
+      led = leads image order nodes end.0 are end.1;
+      end = end.2;
+      state = body.state;
+      stands = subst (λ (n : Node). ClusterStandsFor image body.state n.cluster) same ((v.2).stands body.state it.same);
+      told = body.told;
+    }
 
 -- ---- how many ends have a text
 
@@ -244,10 +294,10 @@ none_yet : (bodies : List (List ℕ)) (told : List Outcome) (body text : List �
 none_yet bodies told body text there new is =
     with_none bodies text (λ k b at same. new (subst (HasBody told) (same ∙ is) (there k b at)))
 
-counted_end : (bodies : List (List ℕ)) (old new : List Outcome) (node : ℕ) (body : List ℕ) → AreApart old
-    → AreThere bodies old → AddsEnd old node body new → AreCountedBy bodies old
+counted_end : (kept : List KeptNode) (bodies : List (List ℕ)) (old new : List Outcome) (node : ℕ) (body : List ℕ)
+    → AreApart old → AreThere bodies old → AddsEnd kept old node body new → AreCountedBy bodies old
     → AreCountedBy (bodies ++ body ∷ []) new
-counted_end bodies old new node body apart there (inl (place, at, counts)) each = λ k outcome now.
+counted_end kept bodies old new node body apart there (inl (place, at, counts)) each = λ k outcome now.
     elim (of_which old new place at.0 at.1 (counts at.0 at.1) k outcome now) [
       | inl here ↦
           let text : at.0.body.items ≡ outcome.body.items = ap (λ (o : Outcome). o.body.items) here.1 in
@@ -260,24 +310,24 @@ counted_end bodies old new node body apart there (inl (place, at, counts)) each 
           ∙ sym (with_other bodies body outcome.body.items
           (λ same. other.0 (apart place k at.0 outcome at.1 other.1 (at.2 ∙ same))))
     ]
-counted_end bodies old new node body apart there (inr adds) each = λ k outcome now.
-    elim (was_one old new node body 1 adds k outcome now) [
+counted_end kept bodies old new node body apart there (inr adds) each = λ k outcome now.
+    elim (was_one kept old new node body 1 adds k outcome now) [
       | inl was ↦
           each k outcome was
           ∙ sym (with_other bodies body outcome.body.items (λ same. adds.0 (k, outcome, was, sym same)))
       | inr one ↦
-          let none = none_yet bodies old body outcome.body.items there adds.0 one.1 in
-          let sum = with_same bodies body outcome.body.items (sym one.1) in
-          omega (arith, one.2, none, sum)
+          let none = none_yet bodies old body outcome.body.items there adds.0 one.body_is in
+          let sum = with_same bodies body outcome.body.items (sym one.body_is) in
+          omega (arith, one.ends_are, none, sum)
     ]
 
-counted_stuck : (bodies : List (List ℕ)) (old new : List Outcome) (node : ℕ) (body : List ℕ) → AreThere bodies old
-    → AddsStuck old node body new → AreCountedBy bodies old → AreCountedBy bodies new
-counted_stuck bodies old new node body there (inl same) each = subst (AreCountedBy bodies) (sym same.1) each
-counted_stuck bodies old new node body there (inr adds) each = λ k outcome now.
-    elim (was_one old new node body 0 adds k outcome now) [
+counted_stuck : (kept : List KeptNode) (bodies : List (List ℕ)) (old new : List Outcome) (node : ℕ) (body : List ℕ)
+    → AreThere bodies old → AddsStuck kept old node body new → AreCountedBy bodies old → AreCountedBy bodies new
+counted_stuck kept bodies old new node body there (inl same) each = subst (AreCountedBy bodies) (sym same.1) each
+counted_stuck kept bodies old new node body there (inr adds) each = λ k outcome now.
+    elim (was_one kept old new node body 0 adds k outcome now) [
       | inl was ↦ each k outcome was
-      | inr one ↦ one.2 ∙ sym (none_yet bodies old body outcome.body.items there adds.0 one.1)
+      | inr one ↦ one.ends_are ∙ sym (none_yet bodies old body outcome.body.items there adds.0 one.body_is)
     ]
 
 -- ---- the ends
@@ -292,33 +342,32 @@ pub record BodiesSoFar (order : List ℕ) (image : ImageParts) (found : Findings
   pub there : AreThere bodies told
   pub counted : AreCountedBy bodies told
 
-pub record EndsSoFar (order : List ℕ) (image : ImageParts) (found : Findings) (count : ℕ) (told : List Outcome)
-    : Type 0 where
-  pub each : (k : ℕ) (outcome : Outcome) → slice_get told k ≡ Some outcome → IsEndOutcome order image found outcome
+pub record EndsSoFar (order : List ℕ) (image : ImageParts) (found : Findings) (heard : List Outcome) (count : ℕ)
+    (told : List Outcome) : Type 0 where
+  pub each : (k : ℕ) (outcome : Outcome) → slice_get told k ≡ Some outcome → IsEndOutcome order image outcome
   pub apart : AreApart told
   pub texts : BodiesSoFar order image found count told
+  pub begins : BeginsWith heard told
 
-pub no_ends : (order : List ℕ) (image : ImageParts) (found : Findings) (told : List Outcome) → told ≡ []
-    → EndsSoFar order image found 0 told
-no_ends order image found told none = record {
-  each = λ k outcome at.
-      let no_one : slice_get [] k ≡ Some outcome = subst (λ os. slice_get os k ≡ Some outcome) none at in absurd (cc);
-  apart = λ i j one other here there equal.
-      let no_one : slice_get [] i ≡ Some one = subst (λ os. slice_get os i ≡ Some one) none here in absurd (cc);
+pub no_ends : (order : List ℕ) (image : ImageParts) (found : Findings) (heard : List Outcome)
+    → AreHeard order image heard → EndsSoFar order image found heard 0 heard
+no_ends order image found heard are = record {
+  each = are.each;
+  apart = are.apart;
   texts = record {
     bodies = [];
     many = refl;
     each = λ k node body at text. absurd (cc);
     there = λ k body at. absurd (cc);
-    counted = λ k outcome at.
-        let no_one : slice_get [] k ≡ Some outcome = subst (λ os. slice_get os k ≡ Some outcome) none at in absurd (cc);
+    counted = are.uncounted;
   };
+  begins = ([], sym (append-nil (bodies_told heard)));
 }
 
 -- where each has fewer ends than there can be, it may have one more
-pub have_room : (order : List ℕ) (image : ImageParts) (found : Findings) (count : ℕ) (told : List Outcome)
-    → count + 1 < 2 ^ 64 → EndsSoFar order image found count told → HaveRoom told
-have_room order image found count told few so_far k outcome at =
+pub have_room : (order : List ℕ) (image : ImageParts) (found : Findings) (heard : List Outcome) (count : ℕ)
+    (told : List Outcome) → count + 1 < 2 ^ 64 → EndsSoFar order image found heard count told → HaveRoom told
+have_room order image found heard count told few so_far k outcome at =
     let texts = so_far.texts in
     let its = texts.counted k outcome at in
     let most = count_by-le-length (λ body. bytes_eq body outcome.body.items) texts.bodies in
@@ -326,10 +375,10 @@ have_room order image found count told few so_far k outcome at =
 
 texts_more : (order : List ℕ) (image : ImageParts) (found : Findings) (count node : ℕ) (body : List ℕ)
     (old new : List Outcome) → slice_get found.ends count ≡ Some node → IsEndBody order image found.kept node body
-    → AddsEnd old node body new → AreApart old → BodiesSoFar order image found count old
+    → AddsEnd found.kept old node body new → AreApart old → BodiesSoFar order image found count old
     → BodiesSoFar order image found (count + 1) new
 texts_more order image found count node body old new at is adds apart so_far =
-    let grows = by_end old new node body adds in
+    let grows = by_end found.kept old new node body adds in
     record {
       bodies = so_far.bodies ++ body ∷ [];
       many = length-append so_far.bodies (body ∷ []) ∙ ap (λ n. n + 1) so_far.many;
@@ -345,30 +394,33 @@ texts_more order image found count node body old new at is adds apart so_far =
         | inl was ↦ grows.stays text (so_far.there k text was)
         | inr last ↦ subst (HasBody new) (same_Some body text last.1) grows.here
       ];
-      counted = counted_end so_far.bodies old new node body apart so_far.there adds so_far.counted;
+      counted = counted_end found.kept so_far.bodies old new node body apart so_far.there adds so_far.counted;
     }
 
-pub one_end : (order : List ℕ) (image : ImageParts) (found : Findings) (count node : ℕ) (body : List ℕ)
-    (old new : List Outcome) → slice_get found.ends count ≡ Some node → IsEndBody order image found.kept node body
-    → AddsEnd old node body new → EndsSoFar order image found count old → EndsSoFar order image found (count + 1) new
-one_end order image found count node body old new at is adds so_far =
-    let grows = by_end old new node body adds in
+pub one_end : (order : List ℕ) (image : ImageParts) (found : Findings) (explored : IsExplored image order found)
+    (heard : List Outcome) (count node : ℕ) (body : List ℕ) (old new : List Outcome)
+    → slice_get found.ends count ≡ Some node → IsEndBody order image found.kept node body
+    → AddsEnd found.kept old node body new → EndsSoFar order image found heard count old
+    → EndsSoFar order image found heard (count + 1) new
+one_end order image found explored heard count node body old new at is adds so_far =
+    let grows = by_end found.kept old new node body adds in
+    let its = explored.1 in
     record {
-      each = λ k outcome there. elim (was_end old new node body adds k outcome there) [
-        | inl was ↦ of_same_end order image found was.0 outcome was.2 was.3 (so_far.each k was.0 was.1)
-        | inr one ↦ (
-          (count, at ∙ ap (λ n. Some n) (sym one.0)),
-          subst (λ n. IsEndBody order image found.kept n outcome.body.items) (sym one.0)
-              (subst (IsEndBody order image found.kept node) (sym one.1) is),
-        )
+      each = λ k outcome there. elim (was_end found.kept old new node body adds k outcome there) [
+        | inl was ↦ of_same_end order image was.0 outcome was.2 was.3 (so_far.each k was.0 was.1)
+        | inr one ↦
+            end_outcome order image found.kept its.nodes its.are node (its.sound count node at) outcome one.leads
+            (subst (IsEndBody order image found.kept node) (sym one.body_is) is)
       ];
       apart = grows.still_apart so_far.apart;
       texts = texts_more order image found count node body old new at is adds so_far.apart so_far.texts;
+      begins = grows.begins heard so_far.begins;
     }
 
-pub all_ends : (order : List ℕ) (image : ImageParts) (found : Findings) (count : ℕ) (told : List Outcome)
-    → count ≡ length found.ends → EndsSoFar order image found count told → AreToldEnds order image found told
-all_ends order image found count told all so_far =
+pub all_ends : (order : List ℕ) (image : ImageParts) (found : Findings) (heard : List Outcome) (count : ℕ)
+    (told : List Outcome) → count ≡ length found.ends → EndsSoFar order image found heard count told
+    → AreToldEnds order image found told
+all_ends order image found heard count told all so_far =
     let texts = so_far.texts in
     record {
       each = so_far.each;
@@ -384,39 +436,42 @@ all_ends order image found count told all so_far =
 
 -- ---- the companies
 
-pub record StuckSoFar (order : List ℕ) (image : ImageParts) (found : Findings) (count : ℕ) (told : List Outcome)
-    : Type 0 where
+pub record StuckSoFar (order : List ℕ) (image : ImageParts) (found : Findings) (heard : List Outcome) (count : ℕ)
+    (told : List Outcome) : Type 0 where
   pub each : (k : ℕ) (outcome : Outcome) → slice_get told k ≡ Some outcome → IsOutcome order image found outcome
   pub apart : AreApart told
   pub counted : AreCounted order image found told
   pub stuck : (k : ℕ) (company : Company) → k < count → slice_get found.companies k ≡ Some company
       → GoesTo found.leads found.ends company.node ⊎ TellsStuck image found.kept told company
+  pub begins : BeginsWith heard told
 
-pub ends_alone : (order : List ℕ) (image : ImageParts) (found : Findings) (told : List Outcome)
-    → AreToldEnds order image found told → StuckSoFar order image found 0 told
-ends_alone order image found told are = record {
+pub ends_alone : (order : List ℕ) (image : ImageParts) (found : Findings) (heard told : List Outcome)
+    → AreToldEnds order image found told → BeginsWith heard told → StuckSoFar order image found heard 0 told
+ends_alone order image found heard told are begun = record {
   each = λ k outcome at. inl (are.each k outcome at);
   apart = are.apart;
   counted = are.counted;
   stuck = λ k company low at. absurd (omega (arith, low));
+  begins = begun;
 }
 
 still_counted : (order : List ℕ) (image : ImageParts) (found : Findings) (old new : List Outcome) (node : ℕ)
-    (body : List ℕ) → AddsStuck old node body new → AreCounted order image found old → AreCounted order image found new
+    (body : List ℕ) → AddsStuck found.kept old node body new → AreCounted order image found old
+    → AreCounted order image found new
 still_counted order image found old new node body adds are = record {
   bodies = are.bodies;
   many = are.many;
   of = are.of;
-  there = λ k text at. (by_stuck old new node body adds).stays text (are.there k text at);
-  each = counted_stuck are.bodies old new node body are.there adds are.each;
+  there = λ k text at. (by_stuck found.kept old new node body adds).stays text (are.there k text at);
+  each = counted_stuck found.kept are.bodies old new node body are.there adds are.each;
 }
 
-pub one_company : (order : List ℕ) (image : ImageParts) (found : Findings) (count : ℕ) (marks : List Bool)
-    (company : Company) (old new : List Outcome) → slice_get found.companies count ≡ Some company
+pub one_company : (order : List ℕ) (image : ImageParts) (found : Findings) (heard : List Outcome) (count : ℕ)
+    (marks : List Bool) (company : Company) (old new : List Outcome) → slice_get found.companies count ≡ Some company
     → AreSound found.leads found.ends marks → AreToldBeside image found.kept marks company old new
-    → StuckSoFar order image found count old → StuckSoFar order image found (count + 1) new
-one_company order image found count marks company old new at sound (inl marked) so_far =
-    subst (λ os. StuckSoFar order image found (count + 1) os) (sym marked.1) (record {
+    → StuckSoFar order image found heard count old → StuckSoFar order image found heard (count + 1) new
+one_company order image found heard count marks company old new at sound (inl marked) so_far =
+    subst (λ os. StuckSoFar order image found heard (count + 1) os) (sym marked.1) (record {
       each = so_far.each;
       apart = so_far.apart;
       counted = so_far.counted;
@@ -427,17 +482,24 @@ one_company order image found count marks company old new at sound (inl marked) 
             inl (subst (λ (x : Company). GoesTo found.leads found.ends x.node) is (sound company.node marked.0))
         | inr other ↦ so_far.stuck k c (omega (arith, low, other)) there
       ];
+      begins = so_far.begins;
     })
-one_company order image found count marks company old new at sound (inr more) so_far =
+one_company order image found heard count marks company old new at sound (inr more) so_far =
     let body = more.0 in
     let is = more.1 in
     let adds = more.2 in
-    let grows = by_stuck old new company.node body adds in
+    let grows = by_stuck found.kept old new company.node body adds in
     record {
-      each = λ k outcome there. elim (was_stuck old new company.node body adds k outcome there) [
+      each = λ k outcome there. elim (was_stuck found.kept old new company.node body adds k outcome there) [
         | inl was ↦ so_far.each k outcome was
-        | inr one ↦
-            inr (count, company, at, sym one.0, subst (IsStuckBody image found.kept company) (sym one.1) is, one.2)
+        | inr one ↦ inr (
+          count,
+          company,
+          at,
+          one.leads,
+          subst (IsStuckBody image found.kept company) (sym one.body_is) is,
+          one.ends_are,
+        )
       ];
       apart = grows.still_apart so_far.apart;
       counted = still_counted order image found old new company.node body adds so_far.counted;
@@ -451,11 +513,13 @@ one_company order image found count marks company old new at sound (inr more) so
           | inr t ↦ inr (t.0, grows.stays t.0 t.1, t.2)
         ]
       ];
+      begins = grows.begins heard so_far.begins;
     }
 
-pub all_told : (order : List ℕ) (image : ImageParts) (found : Findings) (count : ℕ) (told : List Outcome)
-    → length found.companies ≤ count → StuckSoFar order image found count told → AreTold order image found told
-all_told order image found count told all so_far = record {
+pub all_told : (order : List ℕ) (image : ImageParts) (found : Findings) (heard : List Outcome) (count : ℕ)
+    (told : List Outcome) → length found.companies ≤ count → StuckSoFar order image found heard count told
+    → AreTold order image found told
+all_told order image found heard count told all so_far = record {
   each = so_far.each;
   apart = so_far.apart;
   counted = so_far.counted;

@@ -25,14 +25,14 @@ use Rattle.cl_replay.specs.Kept.{Snapshot}
 use Rattle.rvmc_report.specs.Report.{has_trapped}
 use Rattle.rvmc_explore.specs.Endless.{AllMayEnd, SaysUnending, SomeNeverEnds}
 use Rattle.rvmc_explore.specs.Ends.{one_waits, IsWaitText, any_waits}
-use Rattle.rvmc_explore.specs.OneList.{IsTextAt, LeadsToText, OneListLaw, TellsEnd, lines_from}
-use Rattle.rvmc_explore.specs.Outcomes.{AreTold, IsListOf, IsOutcome, nodes_told}
+use Rattle.rvmc_explore.specs.OneList.{LeadsToText, OneListLaw, TellsEnd, lines_from}
+use Rattle.rvmc_explore.specs.Outcomes.{IsListOf}
 use Rattle.rvmc_explore.specs.Recorded.{Leads, LeadsTo, numbered}
 use Rattle.rvmc_explore.proofs.Listed.{end_told}
-use Rattle.rvmc_explore.proofs.ToEnds.{nodes_at}
+use Rattle.rvmc_explore.proofs.ToEnds.{numbered_at, told_way}
 use Rattle.rvmc_explore.specs.Telling.{Tells, any_end, has_stuck, holds_of, is_some_company, search_status, trapped_in, waits_in}
 use Rattle.rvmc_explore.specs.declared.outcomes.Outcome.{Outcome}
-use Rattle.rvmc_explore.proofs.EndTexts.{found_way, lines_alike, lines_of_states, ranks_kept, stands_kept, traps_alike, waits_alike, waits_of_states}
+use Rattle.rvmc_explore.proofs.EndTexts.{found_way, lines_alike, lines_of_states, ranks_kept, traps_alike, waits_alike, waits_of_states}
 
 -- ---- the text of an end
 
@@ -212,79 +212,31 @@ status_same : (left other status its : ℕ) (a b c x y z : Bool) → left ≡ 0 
 status_same left other status its a b c x y z whole all is are first second third =
     is ∙ (λ i. search_status ((whole ∙ sym all) i) (first i) (second i) (third i)) ∙ sym are
 
-leads_there : (image : ImageParts) (order : List ℕ) (nodes : List Node) (steps : List Step) (o : Option ℕ)
-    → Leads image order nodes o (Some steps) → (at : ℕ) × (o ≡ Some at) × LeadsTo image order nodes at steps
-leads_there image order nodes steps None leads = absurd leads
-leads_there image order nodes steps (Some at) leads = (at, refl, leads)
+leads_there : (image : ImageParts) (order : List ℕ) (steps : List Step) (o : Option Outcome)
+    → Leads image order o (Some steps) → (outcome : Outcome) × (o ≡ Some outcome) × LeadsTo image order outcome steps
+leads_there image order steps None leads = absurd leads
+leads_there image order steps (Some outcome) leads = (outcome, refl, leads)
 
-outcome_at : (told : List Outcome) (number at : ℕ) → numbered (nodes_told told) number ≡ Some at
-    → (k : ℕ) × (outcome : Outcome) × (slice_get told k ≡ Some outcome) × (number ≡ suc k)
-    × (outcome.node ≡ at)
-outcome_at told zero at is = absurd (cc)
-outcome_at told (suc before) at is = let v = nodes_at told before at is in (before, v.0, v.1, refl, v.2)
-
-module _ (image : ImageParts) (order : List ℕ) (start : Node) (found : Findings) (explored : ExploredFrom image order start found) (outcome : Outcome)
-    (node : Node) (there : slice_get explored.nodes outcome.node ≡ Some node) where
-  text_at : IsOutcome order image found outcome → IsTextAt image order node.cluster outcome.body.items
-  text_at (inl end) =
-      let body = end.1 in
-      let kept = body.is in
-      record {
-        state = body.state;
-        stands = stands_kept image order start found explored outcome.node kept.what node body.state kept.there there kept.same;
-        spelled = inl body.told;
-      }
-  text_at (inr stuck) =
-      let company = stuck.1 in
-      let body = stuck.4 in
-      let kept = body.is in
-      record {
-        state = body.state;
-        stands = stands_kept image order start found explored outcome.node kept.what node body.state
-            (ap (slice_get found.kept) (sym stuck.3) ∙ kept.there) there kept.same;
-        spelled = inr (company.ranks.items, body.spelled);
-      }
-
--- the node of what is told
-node_told : (image : ImageParts) (order : List ℕ) (found : Findings) (explored : Explored image order found) (outcome : Outcome)
-    → IsOutcome order image found outcome → (node : Node) × (slice_get explored.nodes outcome.node ≡ Some node)
-node_told image order found explored outcome (inl end) =
-    let kept = end.1.is in
-    let v = (explored.are).each outcome.node kept.what kept.there in (v.0, v.1)
-node_told image order found explored outcome (inr stuck) =
-    let kept = stuck.4.is in
-    let v = (explored.are).each stuck.1.node kept.what kept.there in (v.0, ap (slice_get explored.nodes) (sym stuck.3) ∙ v.1)
-
-leads_to_text : (image : ImageParts) (order : List ℕ) (start : Node) (found : Findings)
-    → (explored : ExploredFrom image order start found) → (told : List Outcome) → AreTold order image found told
-    → (number : ℕ) (steps : List Step) → Leads image order explored.nodes (numbered (nodes_told told) number) (Some steps)
-    → LeadsToText image order told number steps
-leads_to_text image order start found explored told are number steps leads =
-    let led = leads_there image order explored.nodes steps (numbered (nodes_told told) number) leads in
-    let of = outcome_at told number led.0 led.1 in
+leads_to_text : (image : ImageParts) (order : List ℕ) (told : List Outcome) (number : ℕ) (steps : List Step)
+    → Leads image order (numbered told number) (Some steps) → LeadsToText image order told number steps
+leads_to_text image order told number steps leads =
+    let led = leads_there image order steps (numbered told number) leads in
+    let at = numbered_at told number led.0 led.1 in
     record {
-      end = led.2.node.cluster;
+      end = (led.2.node).cluster;
       run = led.2.run;
-      outcome = of.1;
-      place = of.0;
-      numbered_from_1 = of.3;
-      there = of.2;
-      told_at = text_at image order start found explored of.1 led.2.node (ap (slice_get explored.nodes) of.4 ∙ led.2.there)
-          (are.each of.0 of.1 of.2);
+      outcome = led.0;
+      place = at.0;
+      numbered_from_1 = at.1;
+      there = at.2;
+      told_at = led.2.told_at;
     }
 
 pub one_list_law : OneListLaw
 one_list_law = record {
   each = λ image order states turns told listed k outcome at.
-      let explored = (listed.searched).explored in
-      let is = (listed.are).each k outcome at in
-      let node = node_told image order listed.found explored outcome is in
-      let way = found_way image order (first_node image) listed.found explored outcome.node node.0 node.1 in (
-        way.0,
-        node.0,
-        way.1,
-        text_at image order (first_node image) listed.found explored outcome node.0 node.1 is,
-      );
+      told_way image order (first_node image) listed.found (listed.searched).explored outcome
+      ((listed.are).each k outcome at);
   every = λ image order states turns told listed whole steps end run follow is.
       tells_end image order states turns told listed whole steps end run follow is;
   ends = λ image order states turns more longer told other one listed whole k i node at there.
@@ -295,19 +247,15 @@ one_list_law = record {
       tells_end image order more longer other listed whole way.0 node.cluster (way.1).run (way.1).follow
       (subst (λ (n : Node). IsEnd (by_order order) n.cluster) same end.2);
   record_leads = λ image order states turns number steps recorded.
-      leads_to_text image order (first_node image) (recorded.listed).found ((recorded.listed).searched).explored
-      recorded.told (recorded.listed).are number steps recorded.leads;
+      leads_to_text image order recorded.told number steps recorded.leads;
   record_leads_from = λ image start states turns number steps recorded.
-      let behind = (recorded.listed).behind in
-      leads_to_text image start.harts behind.start (recorded.listed).found behind.explored recorded.told
-      (recorded.listed).are number steps recorded.leads;
+      leads_to_text image start.harts recorded.told number steps recorded.leads;
   records = λ image order states turns more longer number steps other recorded listed whole.
-      let led = leads_there image order (((recorded.listed).searched).explored).nodes steps
-      (numbered (nodes_told recorded.told) number) recorded.leads in
+      let led = leads_there image order steps (numbered recorded.told number) recorded.leads in
       let way = led.2.way in (
-        led.2.node.cluster,
+        (led.2.node).cluster,
         led.2.run,
-        λ is. tells_end image order more longer other listed whole led.2.turns led.2.node.cluster way.run way.follow is,
+        λ is. tells_end image order more longer other listed whole led.2.turns (led.2.node).cluster way.run way.follow is,
       );
   statuses = λ image order states turns more longer text other status its right harts one whole two all.
       let unending = bools one.unending two.unending

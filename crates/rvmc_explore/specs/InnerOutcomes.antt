@@ -1,22 +1,48 @@
--- The list of what is told, on the way.
-use Rattle.std.specs.Prelude.{ℕ, ◌+◌, ◌^◌, ◌<◌, ◌≡◌, ◌⊎◌, List, [], ◌∷◌, ◌++◌, Bool, true, slice_get, slice_set, Some}
+-- Outcomes on the way: those that were heard of while a search went on, and lists to which more are added.
+use Rattle.std.specs.Prelude.{ℕ, ◌+◌, ◌^◌, ◌<◌, ◌≡◌, ◌⊎◌, List, [], ◌∷◌, ◌++◌, Bool, true, map, slice_get, slice_set, Some}
 use Rattle.rv_image_types.specs.declared.images.ImageParts.{ImageParts}
 use Rattle.cl_explore.specs.Ends.{Findings}
 use Rattle.cl_explore.specs.declared.companies.Company.{Company}
 use Rattle.cl_explore.specs.declared.kept.KeptNode.{KeptNode}
-use Rattle.rvmc_explore.specs.Outcomes.{AreApart, AreCounted, HasBody, IsEndOutcome, IsStuckBody}
+use Rattle.rvmc_explore.specs.Outcomes.{AreApart, AreCounted, HasBody, IsEndOutcome, IsStuckBody, LeadThere}
 use Rattle.rvmc_explore.specs.declared.outcomes.Outcome.{Outcome}
+
+-- outcomes that were heard of, however far a search came: each is one of an end, whose ends aren't counted yet, and no two
+-- have the same text
+pub record AreHeard (order : List ℕ) (image : ImageParts) (told : List Outcome) : Type 0 where
+  pub each : (k : ℕ) (outcome : Outcome) → slice_get told k ≡ Some outcome → IsEndOutcome order image outcome
+  pub uncounted : (k : ℕ) (outcome : Outcome) → slice_get told k ≡ Some outcome → outcome.ends ≡ 0
+  pub apart : AreApart told
+
+-- one more of these
+pub record IsNewEnd (order : List ℕ) (image : ImageParts) (told : List Outcome) (outcome : Outcome) : Type 0 where
+  pub is : IsEndOutcome order image outcome
+  pub uncounted : outcome.ends ≡ 0
+  pub new : HasBody told outcome.body.items → ⊥
+
+-- their texts, in order
+abbrev pub bodies_told : List Outcome → List (List ℕ)
+bodies_told told = map (λ outcome. outcome.body.items) told
+
+-- the texts of the one list are the first ones of the other
+abbrev pub BeginsWith : List Outcome → List Outcome → Type 0
+BeginsWith first told = (more : List (List ℕ)) × (bodies_told told ≡ bodies_told first ++ more)
 
 -- the text of the outcome at this place
 abbrev pub IsBodyAt : List Outcome → List ℕ → ℕ → Type 0
 IsBodyAt told body place = (outcome : Outcome) × (slice_get told place ≡ Some outcome) × (outcome.body.items ≡ body)
 
--- an outcome behind the others, none of which has its text: so many ends have it
-abbrev pub AddsOne : List Outcome → ℕ → List ℕ → ℕ → List Outcome → Type 0
-AddsOne old node body ends new =
+-- the outcome at the node of this number, with this text, which so many ends have
+pub record IsOutcomeOf (kept : List KeptNode) (node : ℕ) (body : List ℕ) (ends : ℕ) (outcome : Outcome) : Type 0 where
+  pub leads : LeadThere kept node outcome.way
+  pub body_is : outcome.body.items ≡ body
+  pub ends_are : outcome.ends ≡ ends
+
+-- it stands behind the others, none of which has its text
+abbrev pub AddsOne : List KeptNode → List Outcome → ℕ → List ℕ → ℕ → List Outcome → Type 0
+AddsOne kept old node body ends new =
     (HasBody old body → ⊥)
-    × ((outcome : Outcome) × (outcome.node ≡ node) × (outcome.body.items ≡ body) × (outcome.ends ≡ ends)
-    × (new ≡ old ++ outcome ∷ []))
+    × ((outcome : Outcome) × IsOutcomeOf kept node body ends outcome × (new ≡ old ++ outcome ∷ []))
 
 abbrev pub one_end_more : Outcome → Outcome
 one_end_more outcome = record outcome { ends = outcome.ends + 1 }
@@ -27,13 +53,13 @@ CountsOne old place new =
     (outcome : Outcome) → slice_get old place ≡ Some outcome → new ≡ slice_set old place (one_end_more outcome)
 
 -- an end with this text: one more of the outcome that has it, or else an outcome of its own
-abbrev pub AddsEnd : List Outcome → ℕ → List ℕ → List Outcome → Type 0
-AddsEnd old node body new =
-    ((place : ℕ) × IsBodyAt old body place × CountsOne old place new) ⊎ AddsOne old node body 1 new
+abbrev pub AddsEnd : List KeptNode → List Outcome → ℕ → List ℕ → List Outcome → Type 0
+AddsEnd kept old node body new =
+    ((place : ℕ) × IsBodyAt old body place × CountsOne old place new) ⊎ AddsOne kept old node body 1 new
 
 -- ranks that are stuck, behind the others, unless one has the same text
-abbrev pub AddsStuck : List Outcome → ℕ → List ℕ → List Outcome → Type 0
-AddsStuck old node body new = (HasBody old body × (new ≡ old)) ⊎ AddsOne old node body 0 new
+abbrev pub AddsStuck : List KeptNode → List Outcome → ℕ → List ℕ → List Outcome → Type 0
+AddsStuck kept old node body new = (HasBody old body × (new ≡ old)) ⊎ AddsOne kept old node body 0 new
 
 -- each may have one end more: the number still fits
 abbrev pub HaveRoom : List Outcome → Type 0
@@ -41,7 +67,7 @@ HaveRoom told = (k : ℕ) (outcome : Outcome) → slice_get told k ≡ Some outc
 
 -- the ends alone
 pub record AreToldEnds (order : List ℕ) (image : ImageParts) (found : Findings) (told : List Outcome) : Type 0 where
-  pub each : (k : ℕ) (outcome : Outcome) → slice_get told k ≡ Some outcome → IsEndOutcome order image found outcome
+  pub each : (k : ℕ) (outcome : Outcome) → slice_get told k ≡ Some outcome → IsEndOutcome order image outcome
   pub apart : AreApart told
   pub counted : AreCounted order image found told
 
@@ -49,4 +75,4 @@ pub record AreToldEnds (order : List ℕ) (image : ImageParts) (found : Findings
 abbrev pub AreToldBeside : ImageParts → List KeptNode → List Bool → Company → List Outcome → List Outcome → Type 0
 AreToldBeside image kept marks company old new =
     ((slice_get marks company.node ≡ Some true) × (new ≡ old))
-    ⊎ ((body : List ℕ) × IsStuckBody image kept company body × AddsStuck old company.node body new)
+    ⊎ ((body : List ℕ) × IsStuckBody image kept company body × AddsStuck kept old company.node body new)

@@ -5,6 +5,7 @@ pub mod Endless
 pub mod Outcomes
 pub mod InnerOutcomes
 pub mod Telling
+pub mod InnerTelling
 pub mod There
 pub mod Recorded
 pub mod InnerRecorded

@@ -1,5 +1,5 @@
 -- That what is told of one image and one order is one, where no state is left.
-use Rattle.std.specs.Prelude.{ℕ, suc, ◌≡◌, ◌⊎◌, ◌++◌, List, [], Bool, false, slice_get, Some}
+use Rattle.std.specs.Prelude.{ℕ, suc, ◌≡◌, ◌++◌, List, [], Bool, false, slice_get, Some}
 use Rattle.std.specs.List.{enumerate_from, flat_map, list_any}
 use Rattle.rv_image_types.specs.Image.{IsImage}
 use Rattle.rv_image_types.specs.declared.images.ImageParts.{ImageParts}
@@ -10,11 +10,8 @@ use Rattle.cl_order_laws.specs.Closed.{FollowPlans, IsEnd, Node, none_had}
 use Rattle.cl_explore.specs.Below.{IsOrder}
 use Rattle.cl_moves.specs.Standing.{IsWay, by_order, first_node}
 use Rattle.cl_explore.specs.Ends.{AreAlikeEnds}
-use Rattle.cl_replay.specs.States.{ClusterStandsFor}
-use Rattle.cl_replay.specs.declared.states.ClusterState.{ClusterState}
-use Rattle.rvmc_picture.specs.Below.{company_text}
-use Rattle.rvmc_explore.specs.Ends.{IsEndText, end_rank_text, one_waits}
-use Rattle.rvmc_explore.specs.Outcomes.{HasBody, IsEndBody, IsListOf}
+use Rattle.rvmc_explore.specs.Ends.{end_rank_text, one_waits}
+use Rattle.rvmc_explore.specs.Outcomes.{HasBody, IsEndBody, IsListOf, IsTextAt}
 use Rattle.rvmc_explore.specs.Recorded.{RecordsEnd}
 use Rattle.rvmc_explore.specs.Starting.{RecordsEndBehind}
 use Rattle.rvmc_explore.specs.Telling.{Tells}
@@ -49,12 +46,6 @@ pub record TellsEnd (image : ImageParts) (order : List ℕ) (states turns : ℕ)
   pub waiting : List ℕ
   pub begins : body ≡ rank_lines order end ++ waiting
   pub alone : some_waits order end ≡ false → waiting ≡ []
-
--- a text is told of this cluster: that of an end, or of ranks that are stuck there
-pub record IsTextAt (image : ImageParts) (order : List ℕ) (cluster : Cluster) (body : List ℕ) : Type 0 where
-  pub state : ClusterState
-  pub stands : ClusterStandsFor image state cluster
-  pub spelled : IsEndText order image state [] body ⊎ ((ranks : List ℕ) × (body ≡ company_text image state ranks))
 
 -- the steps are a run to a cluster of which the text of this number in the list is told
 pub record LeadsToText (image : ImageParts) (order : List ℕ) (told : List Outcome) (number : ℕ) (steps : List Step)

@@ -1,11 +1,17 @@
 -- What is told of a search: its ends, and ranks that are stuck while others run on.
-use Rattle.std.specs.Prelude.{ℕ, ◌≡◌, ◌⊎◌, List, [], length, map, slice_get, Some}
+use Rattle.std.specs.Prelude.{ℕ, ◌≡◌, ◌⊎◌, List, [], length, slice_get, Some}
 use Rattle.std.specs.List.{count_by}
 use Rattle.std.specs.Str.{bytes_eq}
 use Rattle.rv_image_types.specs.declared.images.ImageParts.{ImageParts}
+use Rattle.cl_order_laws.specs.Closed.{IsEnd, Node}
+use Rattle.cl_moves.specs.Standing.{IsWay, by_order, first_node}
+use Rattle.cl_explore.specs.Covering.{AreNodes}
 use Rattle.cl_explore.specs.Ends.{Findings}
 use Rattle.cl_explore.specs.declared.companies.Company.{Company}
 use Rattle.cl_explore.specs.declared.kept.KeptNode.{KeptNode}
+use Rattle.cl_machine.specs.Cluster.{Cluster}
+use Rattle.cl_machine.specs.declared.steps.Step.{Step}
+use Rattle.cl_replay.specs.States.{ClusterStandsFor}
 use Rattle.cl_replay.specs.declared.states.ClusterState.{ClusterState}
 use Rattle.rvmc_picture.specs.Below.{company_text}
 use Rattle.rvmc_explore.specs.Ends.{IsEndText}
@@ -27,19 +33,36 @@ pub record IsStuckBody (image : ImageParts) (kept : List KeptNode) (company : Co
   pub is : IsKeptState kept company.node state
   pub spelled : body ≡ company_text image state company.ranks.items
 
--- what is told is that of an end, or of a company that is stuck in a node, whose text no end has
-abbrev pub IsEndOutcome : List ℕ → ImageParts → Findings → Outcome → Type 0
-IsEndOutcome order image found outcome =
-    ((k : ℕ) × (slice_get found.ends k ≡ Some outcome.node))
-    × IsEndBody order image found.kept outcome.node outcome.body.items
+-- a text is told of this cluster: that of an end, or of ranks that are stuck there
+pub record IsTextAt (image : ImageParts) (order : List ℕ) (cluster : Cluster) (body : List ℕ) : Type 0 where
+  pub state : ClusterState
+  pub stands : ClusterStandsFor image state cluster
+  pub spelled : IsEndText order image state [] body ⊎ ((ranks : List ℕ) × (body ≡ company_text image state ranks))
 
+-- the turns lead to whichever node is kept at this number
+abbrev pub LeadThere : List KeptNode → ℕ → List Step → Type 0
+LeadThere kept at turns =
+    (image : ImageParts) (order : List ℕ) (nodes : List Node) (here : Node) → AreNodes image order kept nodes
+    → slice_get nodes at ≡ Some here → IsWay (by_order order) (first_node image) turns here
+
+-- what is told is that of an end, to which the outcome's turns lead by the order
+pub record IsEndOutcome (order : List ℕ) (image : ImageParts) (outcome : Outcome) : Type 0 where
+  pub node : Node
+  pub led : IsWay (by_order order) (first_node image) outcome.way node
+  pub end : IsEnd (by_order order) node.cluster
+  pub state : ClusterState
+  pub stands : ClusterStandsFor image state node.cluster
+  pub told : IsEndText order image state [] outcome.body.items
+
+-- or of a company that is stuck in a node that was found, to which they lead, and whose text no end has
 abbrev pub IsStuckOutcome : ImageParts → Findings → Outcome → Type 0
 IsStuckOutcome image found outcome =
-    (k : ℕ) × (company : Company) × (slice_get found.companies k ≡ Some company) × (company.node ≡ outcome.node)
+    (k : ℕ) × (company : Company) × (slice_get found.companies k ≡ Some company)
+    × LeadThere found.kept company.node outcome.way
     × IsStuckBody image found.kept company outcome.body.items × (outcome.ends ≡ 0)
 
 abbrev pub IsOutcome : List ℕ → ImageParts → Findings → Outcome → Type 0
-IsOutcome order image found outcome = IsEndOutcome order image found outcome ⊎ IsStuckOutcome image found outcome
+IsOutcome order image found outcome = IsEndOutcome order image outcome ⊎ IsStuckOutcome image found outcome
 
 -- ---- all of them
 
@@ -73,8 +96,8 @@ pub record AreCounted (order : List ℕ) (image : ImageParts) (found : Findings)
   pub each : (k : ℕ) (outcome : Outcome) → slice_get told k ≡ Some outcome
       → outcome.ends ≡ ends_with bodies outcome.body.items
 
--- each is an outcome, and no two have the same text; each end is told, with how many have its text, and so are the ranks
--- that are stuck in each node that leads to no end: of a node that does they are told at that end
+-- each is an outcome, and no two have the same text; each end that was found is told, with how many have its text, and so
+-- are the ranks that are stuck in each node that leads to no end: of a node that does they are told at that end
 pub record AreTold (order : List ℕ) (image : ImageParts) (found : Findings) (told : List Outcome) : Type 0 where
   pub each : (k : ℕ) (outcome : Outcome) → slice_get told k ≡ Some outcome → IsOutcome order image found outcome
   pub apart : AreApart told
@@ -87,7 +110,3 @@ pub record IsListOf (image : ImageParts) (order : List ℕ) (states turns : ℕ)
   pub found : Findings
   pub searched : IsSearched image order states turns found
   pub are : AreTold order image found told
-
--- the numbers of their nodes, in order
-abbrev pub nodes_told : List Outcome → List ℕ
-nodes_told told = map (λ outcome. outcome.node) told

@@ -2,7 +2,8 @@
 use Rattle.std.specs.Prelude.{ℕ, zero, suc, ◌≡◌, ◌<◌, Bool, true, List, length, slice_get, Some, None}
 use Rattle.rv_image_types.specs.declared.images.ImageParts.{ImageParts}
 use Rattle.cl_explore.specs.Covering.{HasLead}
-use Rattle.cl_explore.specs.Ends.{Explored, Findings, IsBounded}
+use Rattle.cl_order_laws.specs.Closed.{Node}
+use Rattle.cl_explore.specs.Ends.{Explored, ExploredFrom, Findings, IsBounded}
 use Rattle.cl_explore.specs.declared.companies.Company.{Company}
 use Rattle.cl_explore.specs.declared.leads.Lead.{Lead}
 
@@ -11,6 +12,10 @@ use Rattle.cl_explore.specs.declared.leads.Lead.{Lead}
 pub record IsSearched (image : ImageParts) (order : List ℕ) (states turns : ℕ) (found : Findings) : Type 0 where
   pub explored : Explored image order found
   pub bounded : IsBounded states None turns found.kept found.left
+
+-- a search of the image by the order found this, from wherever it began
+abbrev pub IsExplored : ImageParts → List ℕ → Findings → Type 0
+IsExplored image order found = (start : Node) × ExploredFrom image order start found
 
 -- each number is that of a node
 pub record IsWithin (found : Findings) : Type 0 where

@@ -11,7 +11,7 @@ use Rattle.rvmc_starts.specs.declared.parts.EndText.{EndText}
 use Rattle.rvmc_starts.specs.declared.parts.Part.{Part}
 use Rattle.rvmc_starts.specs.declared.starts.Start.{Start}
 use Rattle.rvmc_explore.specs.Endless.{SaysNoneStuck, SaysUnending}
-use Rattle.rvmc_explore.specs.Outcomes.{AreTold, nodes_told}
+use Rattle.rvmc_explore.specs.Outcomes.{AreTold}
 use Rattle.rvmc_explore.specs.Recorded.{Leads, numbered}
 use Rattle.rvmc_explore.specs.Telling.{findings_status}
 use Rattle.rvmc_explore.specs.declared.outcomes.Outcome.{Outcome}
@@ -74,7 +74,7 @@ pub record RecordsEndBehind (image : ImageParts) (start : Start) (states turns n
     : Type 0 where
   pub told : List Outcome
   pub listed : IsListFrom image start states turns told
-  pub leads : Leads image start.harts ((((listed.behind).explored).nodes)) (numbered (nodes_told told) number) steps
+  pub leads : Leads image start.harts (numbered told number) steps
 
 -- ---- why not
 

@@ -1,11 +1,10 @@
 //! The line of an outcome.
 
-ghost use Rattle.std.specs.Prelude.{◌≡◌, ◌<◌, ◌+◌, IfOk, OnOk, length, string_bytes};
+ghost use Rattle.std.specs.Prelude.{◌≡◌, IfOk, OnOk, string_bytes};
 ghost use Rattle.rvmc_explore.specs.Telling.{AddsHead, outcome_number};
 
 use crate::differences::{Difference, Reception, first_difference};
 use crate::outcomes::Outcome;
-use cl_explore::Exploration;
 use cl_machine::Step;
 use cl_replay::replay;
 use cl_state::RankState;
@@ -148,15 +147,11 @@ fn message_text(
 fn difference_text(
     alloc: Global,
     image: &Image,
-    found: &Exploration,
-    told: &[Outcome],
-    number: usize,
+    outcome: &Outcome,
+    first: &Outcome,
 ) -> Result<Vec<u8>, AllocError> {
-    let (Some(end), Some(one)) = (told.get(number), told.get(0)) else {
-        return Ok(Vec::new(alloc));
-    };
-    let steps = found.steps_to(alloc, end.node)?;
-    let first = found.steps_to(alloc, one.node)?;
+    let steps = outcome.steps(alloc)?;
+    let first = first.steps(alloc)?;
     let ranks = image.parts().ranks;
     match first_difference(alloc, ranks, steps.as_slice(), first.as_slice())? {
         None => Ok(Vec::new(alloc)),
@@ -164,20 +159,19 @@ fn difference_text(
     }
 }
 
-/// Adds the line of the outcome at this place: its number, and by which message it differs from the first one.
+/// Adds the line of an outcome: its number, and by which message it differs from the first one.
 pub(crate) fn put_head(
     alloc: Global,
     text: &mut Vec<u8>,
     image: &Image,
-    found: &Exploration,
-    told: &[Outcome],
-    place: usize,
+    outcome: &Outcome,
+    first: &Outcome,
+    number: usize,
 ) -> Result<(), AllocError>
-    requires { place < length told.now }
-    ensures { OnOk result (AddsHead (place + 1) text.old.items text.new.items) }
+    ensures { OnOk result (AddsHead number text.old.items text.new.items) }
 {
-    let name = number_text(alloc, place + 1)?;
-    let other = difference_text(alloc, image, found, told, place)?;
+    let name = number_text(alloc, number)?;
+    let other = difference_text(alloc, image, outcome, first)?;
     text.extend_from_slice(name.as_bytes())?;
     text.extend_from_slice(other.as_slice())?;
     text.push(b'\n')?;

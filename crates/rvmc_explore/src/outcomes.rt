@@ -1,15 +1,17 @@
 //! What is told of a search: its ends, and ranks that are stuck while others run on.
 
 ghost use Rattle.std.specs.Prelude.{◌≡◌, ◌<◌, ◌↔◌, IfNone, IfOk, IfSome, OnOk, length, true};
-ghost use Rattle.rvmc_explore.specs.InnerOutcomes.{AddsEnd, AddsStuck, AreToldBeside, AreToldEnds, CountsOne, HaveRoom, IsBodyAt};
-ghost use Rattle.rvmc_explore.specs.Outcomes.{AreTold, HasBody, IsEndBody, IsStuckBody};
-ghost use Rattle.rvmc_explore.specs.Searched.{IsWithin};
 ghost use Rattle.cl_explore.specs.Ends.{findings};
+ghost use Rattle.cl_explore.specs.Listening.{IsEndNode};
+ghost use Rattle.rvmc_explore.specs.InnerOutcomes.{AddsEnd, AddsStuck, AreHeard, AreToldBeside, AreToldEnds, BeginsWith, CountsOne, HaveRoom, IsBodyAt, IsNewEnd, IsOutcomeOf};
+ghost use Rattle.rvmc_explore.specs.Outcomes.{AreTold, HasBody, IsEndBody, IsStuckBody};
+ghost use Rattle.rvmc_explore.specs.Searched.{IsExplored, IsWithin};
 
 use crate::ends::put_end;
 use crate::telling::state_at;
 use crate::unending::leading_to;
-use cl_explore::{Company, Exploration};
+use cl_explore::{Company, Exploration, KeptNode, Runs, steps_to};
+use cl_machine::Step;
 use rv_image_types::Image;
 use rvmc_picture::put_company;
 use std::alloc::{AllocError, Global};
@@ -17,12 +19,24 @@ use std::alloc::{AllocError, Global};
 /// What is told of a state that was found: an end, or ranks that are stuck there while others run on.
 #[derive(Drop)]
 pub struct Outcome {
-    /// The number of its node.
-    pub node: usize,
+    /// The turns that lead there from the loaded cluster.
+    pub way: Runs,
     /// All that is told below its line.
     pub body: Vec<u8>,
     /// How many of the ends that were found have this text: 0 if it is that of ranks that are stuck.
     pub ends: usize,
+}
+
+impl Outcome {
+    /// The turns that lead there, in memory of their own. The only error is want of memory.
+    pub(crate) fn steps(&self, alloc: Global) -> Result<Vec<Step>, AllocError>
+        ensures { IfOk result (λ steps. steps.items ≡ self.now.way) }
+    {
+        let mut steps = Vec::new(alloc);
+        self.way.go_back(alloc, &mut steps)?;
+        steps.as_mut_slice().reverse();
+        Ok(steps)
+    }
 }
 
 /// All that is told of the end at the node of this number.
@@ -30,13 +44,13 @@ fn end_body(
     alloc: Global,
     image: &Image,
     order: &[u8],
-    found: &Exploration,
+    nodes: &[KeptNode],
     node: usize,
 ) -> Result<Vec<u8>, AllocError>
-    requires { node < length found.now.nodes.items }
-    ensures { IfOk result (λ body. IsEndBody order.now image.now found.now.nodes.items node body.items) }
+    requires { node < length nodes.now }
+    ensures { IfOk result (λ body. IsEndBody order.now image.now nodes.now node body.items) }
 {
-    let state = state_at(alloc, found, node)?;
+    let state = state_at(alloc, nodes, node)?;
     let mut body = Vec::new(alloc);
     put_end(alloc, &mut body, image, order, &state)?;
     Ok(body)
@@ -46,13 +60,13 @@ fn end_body(
 fn stuck_body(
     alloc: Global,
     image: &Image,
-    found: &Exploration,
+    nodes: &[KeptNode],
     company: &Company,
 ) -> Result<Vec<u8>, AllocError>
-    requires { company.now.node < length found.now.nodes.items }
-    ensures { IfOk result (λ body. IsStuckBody image.now found.now.nodes.items company.now body.items) }
+    requires { company.now.node < length nodes.now }
+    ensures { IfOk result (λ body. IsStuckBody image.now nodes.now company.now body.items) }
 {
-    let state = state_at(alloc, found, company.node)?;
+    let state = state_at(alloc, nodes, company.node)?;
     let mut body = Vec::new(alloc);
     put_company(alloc, &mut body, image, &state, company.ranks.as_slice())?;
     Ok(body)
@@ -78,6 +92,40 @@ fn place_of(told: &[Outcome], body: &[u8]) -> Option<usize>
     None
 }
 
+/// The outcome at the node of this number, with this text, which so many ends have.
+fn outcome_of(
+    alloc: Global,
+    nodes: &[KeptNode],
+    node: usize,
+    body: Vec<u8>,
+    ends: usize,
+) -> Result<Outcome, AllocError>
+    ensures { IfOk result (IsOutcomeOf nodes.now node body.items ends) }
+{
+    let steps = steps_to(alloc, nodes, node)?;
+    let way = Runs::of(alloc, steps.as_slice())?;
+    Ok(Outcome { way, body, ends })
+}
+
+/// The outcome of the end at the node of this number, before its ends are counted. None where its text is told already.
+pub(crate) fn new_end(
+    alloc: Global,
+    image: &Image,
+    order: &[u8],
+    told: &[Outcome],
+    nodes: &[KeptNode],
+    node: usize,
+) -> Result<Option<Outcome>, AllocError>
+    requires { IsEndNode image.now order.now nodes.now node }
+    ensures { IfOk result (λ o. IfSome o (IsNewEnd order.now image.now told.now)) }
+{
+    let body = end_body(alloc, image, order, nodes, node)?;
+    if place_of(told, body.as_slice()).is_some() {
+        return Ok(None);
+    }
+    Ok(Some(outcome_of(alloc, nodes, node, body, 0)?))
+}
+
 /// Counts one end more of the outcome at this place.
 fn count_one(told: &mut [Outcome], place: usize)
     requires inside { place < length told.old }
@@ -87,52 +135,65 @@ fn count_one(told: &mut [Outcome], place: usize)
     told[place].ends += 1;
 }
 
-/// Adds what is told of an end: if its text is told already, one end more has it.
-fn add_end(told: &mut Vec<Outcome>, node: usize, body: Vec<u8>) -> Result<(), AllocError>
+/// Adds what is told of the end at the node of this number: if its text is told already, one end more has it.
+fn add_end(
+    alloc: Global,
+    told: &mut Vec<Outcome>,
+    nodes: &[KeptNode],
+    node: usize,
+    body: Vec<u8>,
+) -> Result<(), AllocError>
     requires { HaveRoom told.old.items }
-    ensures { OnOk result (AddsEnd told.old.items node body.items told.new.items) }
+    ensures { OnOk result (AddsEnd nodes.now told.old.items node body.items told.new.items) }
 {
     match place_of(told.as_slice(), body.as_slice()) {
         Some(place) => count_one(told.as_mut_slice(), place),
-        None => told.push(Outcome {
-            node,
-            body,
-            ends: 1,
-        })?,
+        None => {
+            let outcome = outcome_of(alloc, nodes, node, body, 1)?;
+            told.push(outcome)?;
+        }
     }
     Ok(())
 }
 
-/// Adds what is told of ranks that are stuck, unless the same text is told already.
-fn add_stuck(told: &mut Vec<Outcome>, node: usize, body: Vec<u8>) -> Result<(), AllocError>
-    ensures { OnOk result (AddsStuck told.old.items node body.items told.new.items) }
+/// Adds what is told of ranks that are stuck in the node of this number, unless the same text is told already.
+fn add_stuck(
+    alloc: Global,
+    told: &mut Vec<Outcome>,
+    nodes: &[KeptNode],
+    node: usize,
+    body: Vec<u8>,
+) -> Result<(), AllocError>
+    ensures { OnOk result (AddsStuck nodes.now told.old.items node body.items told.new.items) }
 {
     if place_of(told.as_slice(), body.as_slice()).is_some() {
         return Ok(());
     }
-    told.push(Outcome {
-        node,
-        body,
-        ends: 0,
-    })?;
+    let outcome = outcome_of(alloc, nodes, node, body, 0)?;
+    told.push(outcome)?;
     Ok(())
 }
 
-/// What is told of each end.
+/// What is told of each end that was found, behind what was heard of ends while it was searched.
 fn tell_ends(
     alloc: Global,
     image: &Image,
     order: &[u8],
     found: &Exploration,
+    heard: Vec<Outcome>,
 ) -> Result<Vec<Outcome>, AllocError>
-    requires { IsWithin (findings found.now) }
-    ensures { IfOk result (λ told. AreToldEnds order.now image.now (findings found.now) told.items) }
+    requires explored { IsExplored image.now order.now (findings found.now) }
+    requires heard { AreHeard order.now image.now heard.items }
+    requires within { IsWithin (findings found.now) }
+    ensures told { IfOk result (λ told. AreToldEnds order.now image.now (findings found.now) told.items) }
+    ensures begins { IfOk result (λ told. BeginsWith heard.items told.items) }
 {
-    let mut told = Vec::new(alloc);
+    let nodes = found.nodes.as_slice();
+    let mut told = heard;
     for place in 0..found.ends.len() {
         let node = found.ends[place];
-        let body = end_body(alloc, image, order, found, node)?;
-        add_end(&mut told, node, body)?;
+        let body = end_body(alloc, image, order, nodes, node)?;
+        add_end(alloc, &mut told, nodes, node, body)?;
     }
     Ok(told)
 }
@@ -141,38 +202,43 @@ fn tell_ends(
 fn tell_company(
     alloc: Global,
     image: &Image,
-    found: &Exploration,
+    nodes: &[KeptNode],
     told: &mut Vec<Outcome>,
     marks: &[bool],
     company: &Company,
 ) -> Result<(), AllocError>
-    requires { company.now.node < length found.now.nodes.items }
-    ensures { OnOk result (AreToldBeside image.now found.now.nodes.items marks.now company.now told.old.items
-        told.new.items) }
+    requires { company.now.node < length nodes.now }
+    ensures { OnOk result (AreToldBeside image.now nodes.now marks.now company.now told.old.items told.new.items) }
 {
     if *marks.get(company.node).unwrap_or(&false) {
         return Ok(());
     }
-    let body = stuck_body(alloc, image, found, company)?;
-    add_stuck(told, company.node, body)
+    let body = stuck_body(alloc, image, nodes, company)?;
+    add_stuck(alloc, told, nodes, company.node, body)
 }
 
-/// All that is told: each end, and the ranks that are stuck in each node that leads to no end. No two have the same text:
-/// the first with a text stands for all, and says how many ends have it.
+/// All that is told: what was heard of ends while it was searched, each end that was found, and the ranks that are stuck in
+/// each node that leads to no end. No two have the same text: the first with a text stands for all, and says how many ends
+/// that were found have it.
 pub(crate) fn tell(
     alloc: Global,
     image: &Image,
     order: &[u8],
     found: &Exploration,
+    heard: Vec<Outcome>,
 ) -> Result<Vec<Outcome>, AllocError>
-    requires { IsWithin (findings found.now) }
-    ensures { IfOk result (λ told. AreTold order.now image.now (findings found.now) told.items) }
+    requires explored { IsExplored image.now order.now (findings found.now) }
+    requires heard { AreHeard order.now image.now heard.items }
+    requires within { IsWithin (findings found.now) }
+    ensures told { IfOk result (λ told. AreTold order.now image.now (findings found.now) told.items) }
+    ensures begins { IfOk result (λ told. BeginsWith heard.items told.items) }
 {
-    let mut told = tell_ends(alloc, image, order, found)?;
+    let mut told = tell_ends(alloc, image, order, found, heard)?;
+    let nodes = found.nodes.as_slice();
     let marks = leading_to(alloc, found, found.ends.as_slice())?;
     for place in 0..found.companies.len() {
         let company = &found.companies[place];
-        tell_company(alloc, image, found, &mut told, marks.as_slice(), company)?;
+        tell_company(alloc, image, nodes, &mut told, marks.as_slice(), company)?;
     }
     Ok(told)
 }

@@ -1,16 +1,17 @@
 //! What is told of one start of a split.
 
-ghost use Rattle.std.specs.Prelude.{◌≡◌, ◌<◌, IfErr, IfOk, None, Some, length, slice_get};
+ghost use Rattle.std.specs.Prelude.{◌≡◌, ◌<◌, [], IfErr, IfOk, None, length};
 ghost use Rattle.std.specs.Option.{option_map};
 ghost use Rattle.rv_image.specs.Text.{image_text};
 ghost use Rattle.cl_explore.specs.Ends.{ExploredBehind, IsBounded, findings};
 ghost use Rattle.rvmc_starts.specs.Sums.{sum_of};
 ghost use Rattle.cl_lines.specs.Telling.{TellsProgress};
+ghost use Rattle.rvmc_explore.specs.InnerOutcomes.{AreHeard};
 ghost use Rattle.rvmc_explore.specs.Starting.{AreEndsTold, IsEndTold, IsLine, RecordsEndBehind, StartFaultHolds, TellsFrom};
-ghost use Rattle.rvmc_explore.specs.declared.outcomes.Outcome.{Outcome as OutcomeView};
 ghost use Rattle.rvmc_explore.specs.declared.starting.StartFault.TheVariants as faults;
 
 use crate::heads::put_head;
+use crate::hearing::Hearer;
 use crate::judging::search_status;
 use crate::outcomes::{Outcome, tell};
 use crate::recording::record_in;
@@ -67,56 +68,52 @@ fn first_line(alloc: Global, text: &[u8]) -> Result<Vec<u8>, AllocError>
     Ok(line)
 }
 
-/// What is told of the outcome at this place: its line, and its text.
+/// What is told of the outcome of this number: its line, which says how it differs from the first one, and its text.
 fn end_told(
     alloc: Global,
     image: &Image,
-    found: &Exploration,
-    told: &[Outcome],
-    place: usize,
+    outcome: &Outcome,
+    first: &Outcome,
+    number: usize,
 ) -> Result<EndText, AllocError>
-    requires { place < length told.now }
-    ensures { IfOk result (λ end. (outcome : OutcomeView) → slice_get told.now place ≡ Some outcome
-        → IsEndTold outcome end) }
+    ensures { IfOk result (IsEndTold outcome.now) }
 {
     let mut head = Vec::new(alloc);
-    put_head(alloc, &mut head, image, found, told, place)?;
+    put_head(alloc, &mut head, image, outcome, first, number)?;
     let line = first_line(alloc, head.as_slice())?;
     Ok(EndText {
         head: Text::from_vec(line),
-        body: Text::copy_of(alloc, told[place].body.as_slice())?,
+        body: Text::copy_of(alloc, outcome.body.as_slice())?,
     })
 }
 
 /// What is told of all outcomes, in their order.
-fn ends_told(
-    alloc: Global,
-    image: &Image,
-    found: &Exploration,
-    told: &[Outcome],
-) -> Result<Vec<EndText>, AllocError>
+fn ends_told(alloc: Global, image: &Image, told: &[Outcome]) -> Result<Vec<EndText>, AllocError>
     ensures { IfOk result (λ ends. AreEndsTold told.now ends.items) }
 {
     let mut ends = Vec::new(alloc);
     for place in 0..told.len() {
-        let end = end_told(alloc, image, found, told, place)?;
+        let end = end_told(alloc, image, &told[place], &told[0], place + 1)?;
         ends.push(end)?;
     }
     Ok(ends)
 }
 
-/// A search from a start.
+/// A search from a start, in which ends are heard of as they are found.
 ///
 /// Refusals: OtherImage, then NoTurn, and Memory.
-#[tactic(auto, using(cl_lines::proofs::Behind::nothing_told))]
+#[tactic(auto, using(cl_lines::proofs::Behind::nothing_told, crate::proofs::Heard::none_heard))]
 fn searched<E: Write>(
     alloc: Global,
     image: &Image,
     start: &Start,
     reach: Reach,
+    hearer: &mut Hearer,
     err: &mut E,
 ) -> Result<Exploration, StartFault>
-    requires { 0 < length start.now.harts }
+    requires harts { 0 < length start.now.harts }
+    requires none { hearer.old.told.items ≡ [] }
+    ensures heard { AreHeard start.now.harts image.now hearer.new.told.items }
     ensures known { IfOk result (λ found. start.now.image ≡ sum_of (image_text image.now)) }
     ensures ends { IfOk result (λ found. ExploredBehind image.now start.now.harts start.now.turns (findings found)) }
     ensures most { IfOk result (λ found. IsBounded reach.states None reach.turns found.nodes.items found.left) }
@@ -132,7 +129,8 @@ fn searched<E: Write>(
         most: reach.turns,
         progress: reach.progress,
     };
-    match explore_from(&course, image, start.turns.as_slice(), reach.states, err) {
+    let turns = start.turns.as_slice();
+    match explore_from(&course, image, turns, reach.states, hearer, err) {
         Ok(found) => Ok(found),
         Err(OrderFault::NoTurn(turn)) => Err(StartFault::NoTurn(turn)),
         Err(OrderFault::Move(_)) => Err(StartFault::Memory),
@@ -158,10 +156,11 @@ pub fn explored_from<E: Write>(
 {
     // ghost: brings into scope that the parts are those of an image; no effect at run time
     let _parts = image.parts();
-    let found = searched(alloc, image, start, reach, err)?;
+    let mut hearer = Hearer::new(alloc);
+    let found = searched(alloc, image, start, reach, &mut hearer, err)?;
     let order = start.harts.as_slice();
-    let told = tell(alloc, image, order, &found)?;
-    let ends = ends_told(alloc, image, &found, told.as_slice())?;
+    let told = tell(alloc, image, order, &found, hearer.told)?;
+    let ends = ends_told(alloc, image, told.as_slice())?;
     let unending = is_unending(alloc, &found)?;
     let status = search_status(&found, order, unending);
     let part = Part {
@@ -201,7 +200,8 @@ pub fn recorded_from<E: Write>(
 {
     // ghost: brings into scope that the parts are those of an image; no effect at run time
     let _parts = image.parts();
-    let found = searched(alloc, image, start, reach, err)?;
-    let told = tell(alloc, image, start.harts.as_slice(), &found)?;
-    Ok(record_in(alloc, &found, told.as_slice(), number)?)
+    let mut hearer = Hearer::new(alloc);
+    let found = searched(alloc, image, start, reach, &mut hearer, err)?;
+    let told = tell(alloc, image, start.harts.as_slice(), &found, hearer.told)?;
+    Ok(record_in(alloc, told.as_slice(), number)?)
 }

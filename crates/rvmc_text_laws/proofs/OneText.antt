@@ -32,6 +32,20 @@ same_text order image a b x y right alike one other =
     end_text_law order image one.state other.state x y right
     (record { one = a; other = b; wild = alike.0; first = one.is; second = other.is; alike = alike.1 }) one.told other.told
 
+-- an outcome of an end is told where its turns lead
+told_there : (image : ImageParts) (order : List ℕ) (outcome : Outcome) → (is : IsEndOutcome order image outcome)
+    → ToldAt order image (is.node).cluster outcome.body.items
+told_there image order outcome is = record {
+  state = is.state;
+  is = record { reached = (outcome.way, (is.led).run); stands = is.stands };
+  told = is.told;
+}
+
+at_number : (image : ImageParts) (order : List ℕ) (told : List Outcome) (k : ℕ) (end : Cluster)
+    → (is : IsEndAt image order told k end) → ToldAt order image end (is.outcome).body.items
+at_number image order told k end is =
+    subst (λ c. ToldAt order image c (is.outcome).body.items) is.cluster_is (told_there image order is.outcome is.is)
+
 module _ (image : ImageParts) (order : List ℕ) (found : Findings) (explored : Explored image order found) where
   told_at : (i : ℕ) (node : Node) (body : List ℕ) → slice_get explored.nodes i ≡ Some node
       → IsEndBody order image found.kept i body
@@ -59,25 +73,16 @@ module _ (image : ImageParts) (order : List ℕ) (states turns : ℕ) (told : Li
       → ToldAt order image (tells.node).cluster tells.body
   tells_at end tells = told_at image order listed.found explored tells.number tells.node tells.body tells.there tells.is
 
-  at_number : (k : ℕ) (end : Cluster) → (is : IsEndAt image order states turns told listed k end)
-      → ToldAt order image end (is.outcome).body.items
-  at_number k end is =
-      subst (λ c. ToldAt order image c (is.outcome).body.items) is.cluster_is
-      (told_at image order listed.found explored (is.outcome).node is.node (is.outcome).body.items is.at (is.is).1)
-
   -- the text of an end of whatever list is in this one, where no state is left
-  text_there : (listed.found).left ≡ 0 → (more longer : ℕ) (others : List Outcome)
-      (one : IsListOf image order more longer others) (outcome : Outcome) → IsEndOutcome order image one.found outcome
+  text_there : (listed.found).left ≡ 0 → (outcome : Outcome) → IsEndOutcome order image outcome
       → HasBody told outcome.body.items
-  text_there whole more longer others one outcome is =
-      let its = (one.searched).explored in
-      let end = its.sound (is.0).0 outcome.node (is.0).1 in
-      let tells = (one_list_law.ends) image order more longer states turns others told one listed whole (is.0).0 outcome.node
-      end.0 (is.0).1 end.1 in
-      let at = told_at image order one.found its outcome.node end.0 outcome.body.items end.1 is.1 in
+  text_there whole outcome is =
+      let end = (is.node).cluster in
+      let tells = (one_list_law.every) image order states turns told listed whole outcome.way end (is.led).run (is.led).follow
+      is.end in
       subst (HasBody told)
-      (sym (same_text order image (end.0).cluster (tells.node).cluster outcome.body.items tells.body right tells.alike at
-      (tells_at (end.0).cluster tells))) tells.told_is
+      (sym (same_text order image end (tells.node).cluster outcome.body.items tells.body right tells.alike
+      (told_there image order outcome is) (tells_at end tells))) tells.told_is
 
 pub one_text_law : OneTextLaw
 one_text_law = record {
@@ -88,8 +93,7 @@ one_text_law = record {
   apart = λ image order states turns told listed right k j one other first second alike.
       ((listed.are).apart) k j first.outcome second.outcome first.there second.there
       (same_text order image one other (first.outcome).body.items (second.outcome).body.items right alike
-      (at_number image order states turns told listed right k one first)
-      (at_number image order states turns told listed right j other second));
+      (at_number image order told k one first) (at_number image order told j other second));
   texts = λ image order states turns more longer told other one two whole right k outcome at is.
-      text_there image order more longer other two right whole states turns told one outcome is;
+      text_there image order more longer other two right whole outcome is;
 }

@@ -5,7 +5,6 @@ use Rattle.rv_image_types.specs.declared.images.ImageParts.{ImageParts}
 use Rattle.cl_deadlock_laws.specs.Stuck.{IsReachable}
 use Rattle.cl_explore.specs.Ends.{AreAlikeEnds}
 use Rattle.cl_machine.specs.Cluster.{Cluster}
-use Rattle.cl_order_laws.specs.Closed.{Node}
 use Rattle.cl_replay.specs.States.{ClusterStandsFor}
 use Rattle.cl_replay.specs.declared.states.ClusterState.{ClusterState}
 use Rattle.rvmc_explore.specs.Ends.{IsEndText}
@@ -22,14 +21,11 @@ EndTextLaw =
     → x ≡ y
 
 -- the outcome of this number in the list is an end, with this cluster
-pub record IsEndAt (image : ImageParts) (order : List ℕ) (states turns : ℕ) (told : List Outcome)
-    (listed : IsListOf image order states turns told) (k : ℕ) (end : Cluster) : Type 0 where
+pub record IsEndAt (image : ImageParts) (order : List ℕ) (told : List Outcome) (k : ℕ) (end : Cluster) : Type 0 where
   pub outcome : Outcome
   pub there : slice_get told k ≡ Some outcome
-  pub is : IsEndOutcome order image listed.found outcome
-  pub node : Node
-  pub at : slice_get (((listed.searched).explored).nodes) outcome.node ≡ Some node
-  pub cluster_is : node.cluster ≡ end
+  pub is : IsEndOutcome order image outcome
+  pub cluster_is : (is.node).cluster ≡ end
 
 -- of lists of one image and one order, whatever their bounds. `one_list_law` has which ends they tell
 pub record OneTextLaw : Type 0 where
@@ -41,13 +37,13 @@ pub record OneTextLaw : Type 0 where
       → tells.body ≡ text
   -- no two ends of a list are alike
   pub apart : (image : ImageParts) (order : List ℕ) (states turns : ℕ) (told : List Outcome)
-      → (listed : IsListOf image order states turns told) → IsImage image
-      → (k j : ℕ) (one other : Cluster) → IsEndAt image order states turns told listed k one
-      → IsEndAt image order states turns told listed j other → AreAlikeEnds one other
+      → IsListOf image order states turns told → IsImage image
+      → (k j : ℕ) (one other : Cluster) → IsEndAt image order told k one
+      → IsEndAt image order told j other → AreAlikeEnds one other
       → k ≡ j
   -- each text of an end in one list is in each other one of a search that left no state
   pub texts : (image : ImageParts) (order : List ℕ) (states turns more longer : ℕ) (told other : List Outcome)
       → (one : IsListOf image order states turns told) → (two : IsListOf image order more longer other)
       → (two.found).left ≡ 0 → IsImage image
-      → (k : ℕ) (outcome : Outcome) → slice_get told k ≡ Some outcome → IsEndOutcome order image one.found outcome
+      → (k : ℕ) (outcome : Outcome) → slice_get told k ≡ Some outcome → IsEndOutcome order image outcome
       → HasBody other outcome.body.items

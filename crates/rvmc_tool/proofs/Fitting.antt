@@ -7,28 +7,26 @@ use Rattle.cl_record.specs.declared.plans.Plan.{Plan}
 use Rattle.rv_image_types.specs.Image.{IsImage}
 use Rattle.rv_image_types.specs.declared.images.ImageParts.{ImageParts}
 use Rattle.cl_machine.specs.declared.steps.Step.{Step}
-use Rattle.rvmc_explore.specs.Below.{Node}
 use Rattle.cl_text.specs.Limits.{FitsStep}
 use Rattle.cl_text_laws.proofs.Runs.{runs_fit}
 use Rattle.rvmc_explore.specs.Recorded.{Leads, RecordsEnd}
 use Rattle.rvmc_explore.specs.Starting.{RecordsEndBehind}
+use Rattle.rvmc_explore.specs.declared.outcomes.Outcome.{Outcome}
 use Rattle.rvmc_starts.specs.declared.starts.Start.{Start}
 use Rattle.rvmc_answers.specs.Plans.{ArePlansOf, IsPlanOf}
 
-fit_by : (image : ImageParts) (order : List ℕ) (nodes : List Node) (steps : List Step) (found : Option ℕ) → IsImage image
-    → Leads image order nodes found (Some steps) → All (FitsStep image) steps
-fit_by image order nodes steps None is leads = absurd leads
-fit_by image order nodes steps (Some at) is leads = runs_fit image steps leads.node.cluster is leads.run
+fit_by : (image : ImageParts) (order : List ℕ) (steps : List Step) (found : Option Outcome) → IsImage image
+    → Leads image order found (Some steps) → All (FitsStep image) steps
+fit_by image order steps None is leads = absurd leads
+fit_by image order steps (Some outcome) is leads = runs_fit image steps (leads.node).cluster is leads.run
 
 pub ends_fit : (image : ImageParts) (order : List ℕ) (states turns number : ℕ) (steps : List Step) → IsImage image
     → RecordsEnd image order states turns number (Some steps) → All (FitsStep image) steps
-ends_fit image order states turns number steps is recorded =
-    fit_by image order (((recorded.listed).searched).explored).nodes steps _ is recorded.leads
+ends_fit image order states turns number steps is recorded = fit_by image order steps _ is recorded.leads
 
 pub ends_behind_fit : (image : ImageParts) (start : Start) (states turns number : ℕ) (steps : List Step) → IsImage image
     → RecordsEndBehind image start states turns number (Some steps) → All (FitsStep image) steps
-ends_behind_fit image start states turns number steps is recorded =
-    fit_by image start.harts ((((recorded.listed).behind).explored).nodes) steps _ is recorded.leads
+ends_behind_fit image start states turns number steps is recorded = fit_by image start.harts steps _ is recorded.leads
 
 -- the harts of right plans are some
 pub names_one : (image : ImageParts) (order : List ℕ) (budget : ℕ) (plans : List Plan) → 1 ≤ image.ranks

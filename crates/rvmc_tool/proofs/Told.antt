@@ -1,6 +1,6 @@
 -- What stands on the output is what the command line says of the bytes.
 use Rattle.std.proofs.Common.{◌≡◌, ◌≤◌, ℕ, ◌∙◌, List, [], Option, Some, None, ap, length, inl, inr, refl, sym, subst, append-nil}
-use Rattle.std.specs.Prelude.{◌⊎◌, IfOk, IfErr, IfSome, MatchResult, Result, Ok, Err, true}
+use Rattle.std.specs.Prelude.{◌⊎◌, Bool, IfOk, IfErr, IfSome, MatchResult, Result, Ok, Err, true}
 use Rattle.std.specs.Io.KnownBytes.{Appends, Keeps}
 use Rattle.cl_machine.specs.declared.steps.Step.{Step}
 use Rattle.cl_text.specs.Reading.{reading_record}
@@ -26,7 +26,7 @@ use Rattle.rvmc_views.specs.Records.{SaysOfSteps, is_in_pieces, part_behind, rec
 use Rattle.rvmc_answers.specs.Taking.{IsFaultIn}
 use Rattle.rvmc_answers.specs.declared.answers.Answer.{Answer}
 use Rattle.rvmc_views.specs.Pieces.{LeavesPieces}
-use Rattle.rvmc_tool.specs.Made.{TellsPieces}
+use Rattle.rvmc_tool.specs.Made.{TellsPieces, TellsSearch}
 use Rattle.rvmc_tool.specs.Tool.{Answers, IsCutShort, IsRefused, IsSaid, IsUnlike}
 use Rattle.rvmc_tool.specs.Plain.{IsWhole, Tells}
 
@@ -198,3 +198,24 @@ module _ (command : RecordCommand) (pieces : is_in_pieces command ≡ true) wher
       let short : length whole ≤ 67108864 = subst (λ (b : List ℕ). length b ≤ 67108864) (sym same) has.short in
       subst (λ (b : List ℕ). Answers (OfRecord command) b status old new) (same ∙ all)
       (pieces_so whole status old new short tells)
+
+-- what a search tells, whole or cut short, or the fault in its place
+module _ (source : Bool) (command : ImageCommand) where
+  search_so : (bytes : List ℕ) (status : ℕ) (old new : Option (List ℕ)) → length bytes ≤ 67108864
+      → TellsSearch source command bytes status old new → Answers (OfImage source command) bytes status old new
+  search_so bytes status old new short (inl (text, says, there)) =
+      (text, inl (record { short = λ _. short; says = inl says }), there)
+  search_so bytes status old new short (inr (fault, is, status_is, inl keeps)) =
+      answered (OfImage source command) bytes (Err fault) status old new short tt is (status_is, keeps)
+  search_so bytes status old new short (inr (fault, is, status_is, inr (memory, text, cut, there))) =
+      (text, inr (inr (status_is ∙ ap fault_status memory, short, cut)), there)
+
+  -- the same of all bytes of an input
+  pub obeyed_by_search : (known : Option (List ℕ)) (bytes taken whole : List ℕ) (status : ℕ)
+      (old new : Option (List ℕ)) → known ≡ Some bytes → IsWhole known taken → whole ≡ taken
+      → TellsSearch source command whole status old new → Answers (OfImage source command) bytes status old new
+  obeyed_by_search known bytes taken whole status old new is has same tells =
+      let all : taken ≡ bytes = subst (λ (k : Option (List ℕ)). IfSome k (λ b. taken ≡ b)) is has.all in
+      let short : length whole ≤ 67108864 = subst (λ (b : List ℕ). length b ≤ 67108864) (sym same) has.short in
+      subst (λ (b : List ℕ). Answers (OfImage source command) b status old new) (same ∙ all)
+      (search_so whole status old new short tells)

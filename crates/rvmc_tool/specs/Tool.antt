@@ -6,6 +6,7 @@ use Rattle.rvmc_tool.specs.Answers.{HasThreads, Says}
 use Rattle.rvmc_answers.specs.Ends.{IsFaulty}
 use Rattle.rvmc_answers.specs.Images.{image_in}
 use Rattle.rvmc_views.specs.Records.{is_in_pieces}
+use Rattle.rvmc_tool.specs.Exploring.{IsCutSearchOf}
 use Rattle.rvmc_tool.specs.Sessions.{is_session}
 use Rattle.rvmc_cli.specs.Meaning.{Parses}
 use Rattle.rvmc_line.specs.declared.line.CommandLine.{CommandLine}
@@ -32,8 +33,11 @@ pub record IsSaid (line : CommandLine) (bytes : List ℕ) (text : List ℕ) (sta
   pub short : is_session line ≡ false → length bytes ≤ 67108864
   pub says : Says line bytes text status ⊎ IsUnlike line bytes text status
 
--- of `list` and `page`: memory was refused while the text was written, so that a beginning of it stands there
+-- memory was refused while the text was written: of `list` and `page` a beginning of it stands there, and of a search the
+-- outcomes that were found
 abbrev pub IsCutShort : CommandLine → List ℕ → List ℕ → ℕ → Type 0
+IsCutShort (OfImage source command) bytes text status =
+    (status ≡ 5) × (length bytes ≤ 67108864) × IsCutSearchOf source command bytes text
 IsCutShort (OfRecord command) bytes text status =
     (is_in_pieces command ≡ true) × (status ≡ 5) × (whole : List ℕ) × IsSaid (OfRecord command) bytes whole 0
     × StartsWith whole text

@@ -7,11 +7,11 @@ ghost use Rattle.rvmc_tool.specs.Answers.{Makes, Says, SaysOfImage};
 ghost use Rattle.rvmc_answers.specs.Ends.{end_status};
 ghost use Rattle.rvmc_tool.specs.Making.{EndsSo, IsFaultOf, IsImageFault, needs_threads, RefusesImage};
 ghost use Rattle.rvmc_answers.specs.Making.{IsWhole};
-ghost use Rattle.rvmc_tool.specs.Made.{is_written_as_made};
+ghost use Rattle.rvmc_tool.specs.Made.{is_written_as_made, tells_search};
 ghost use Rattle.rvmc_answers.specs.Outputs.{output_bytes};
 ghost use Rattle.rvmc_tool.specs.Progress.{asks_progress, wants_progress};
 
-use crate::exploring::explore;
+use crate::exploring::{Search, explore_record};
 use crate::starting::{explore_from, join, split};
 use rv_image::write_image;
 use rv_image_types::Image;
@@ -35,7 +35,8 @@ fn rewritten(alloc: Global, bytes: &[u8], source: bool) -> Result<Answer, Fault>
     Ok(Answer::done(write_image(alloc, &image)?))
 }
 
-/// What a command makes of the image that it takes, if it takes it as it is: one case a command.
+/// What a command makes of the image that it takes, if it takes it as it is: one case a command. What a search tells isn't
+/// made here: it is written as it is found.
 fn made<R: MaybeThreads, E: Write>(
     rt: &R,
     alloc: Global,
@@ -45,6 +46,7 @@ fn made<R: MaybeThreads, E: Write>(
 ) -> Result<Answer, Fault>
     requires threads { R.may_ask }
     requires kept { command.now ≢ asked.Asm true }
+    requires whole { tells_search command.now ≡ false }
     ensures says { IfOk result (λ answer.
         Makes command.now image.now (output_bytes answer.output) (end_status answer.end)) }
     ensures whole { IfOk result (λ answer. IsWhole answer.end) }
@@ -53,7 +55,6 @@ fn made<R: MaybeThreads, E: Write>(
 {
     match command {
         ImageCommand::Asm { .. } => Ok(Answer::done(write_image(alloc, image)?)),
-        ImageCommand::Dis => Ok(Answer::done(listing(alloc, image)?)),
         ImageCommand::Run {
             budget,
             plan,
@@ -82,9 +83,17 @@ fn made<R: MaybeThreads, E: Write>(
             plan,
             states,
             turns,
-            record,
+            record: Some(number),
             progress,
-        } => explore(alloc, image, plan, *states, *turns, *record, *progress, err),
+        } => {
+            let wanted = Search {
+                harts: plan,
+                states: *states,
+                turns: *turns,
+                progress: *progress,
+            };
+            explore_record(alloc, image, &wanted, *number, err)
+        }
         ImageCommand::Split {
             plan,
             count,
@@ -100,6 +109,8 @@ fn made<R: MaybeThreads, E: Write>(
         } => explore_from(
             alloc, image, start, *states, *turns, *record, *progress, err,
         ),
+        // of the others `Dis` alone is answered as a whole
+        _ => Ok(Answer::done(listing(alloc, image)?)),
     }
 }
 
@@ -113,7 +124,8 @@ fn answer_of_image<R: MaybeThreads, E: Write>(
     command: &ImageCommand,
     err: &mut E,
 ) -> Result<Answer, Fault>
-    requires { R.may_ask }
+    requires threads { R.may_ask }
+    requires whole { tells_search command.now ≡ false }
     ensures says { IfOk result (λ answer.
         SaysOfImage source command.now bytes.now (output_bytes answer.output) (end_status answer.end)) }
     ensures whole { IfOk result (λ answer. IsWhole answer.end) }
@@ -132,8 +144,8 @@ fn answer_of_image<R: MaybeThreads, E: Write>(
 /// A fault of the input is an `Err`, as want of memory is: the first fault of the source, the image or the record,
 /// `Plans` where a run's plan or order is wrong, or the fault for which a command tells nothing of a record's steps. A
 /// word of `debug` that is refused is no such `Err`: the answer has the texts of the words before it, and is cut short
-/// by the fault. A session answers as its input comes, and a list is written as it is made: not here. A search that is asked
-/// for lines that say how far it came writes them on `err`.
+/// by the fault. A session answers as its input comes, and a list and what a search tells are written as they are made: not
+/// here. A search that is asked for lines that say how far it came writes them on `err`.
 ///
 /// `run` waits for its threads, and what is promised of it holds if it returns. It also answers `Spawn` where a thread is
 /// refused, and `Unlike` where what the threads left doesn't fit together; both only where its plan is right.

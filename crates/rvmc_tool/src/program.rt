@@ -15,7 +15,8 @@ ghost use Rattle.rvmc_hints.specs.HintLines.{AppendsHint};
 ghost use Rattle.rvmc_answers.specs.Below.{TakesAtMost};
 
 use crate::answers::answer;
-use crate::made::{listed, paged};
+use crate::exploring::Search;
+use crate::made::{explored, listed, paged};
 use crate::sessions::{served, served_words};
 use rvmc_advice::{fail, fail_to_read, fail_with_hint, hint_words, tell_run_hint};
 use rvmc_answers::faults::Fault;
@@ -175,8 +176,8 @@ fn answered<R: MaybeThreads, I: Read, O: Write, E: Write>(
     }
 }
 
-/// Does what a command line asks for. A session is answered as its input comes, and a list and a page are written step by
-/// step; what else is answered is read first, and written as a whole.
+/// Does what a command line asks for. A session is answered as its input comes, a list and a page are written step by step,
+/// and outcomes as they are found; what else is answered is read first, and written as a whole.
 #[tactic(auto, using(crate::proofs::Aloud::hint_alone))]
 fn obey<R: MaybeThreads, I: Read, O: Write, E: Write>(
     rt: &R,
@@ -194,6 +195,24 @@ fn obey<R: MaybeThreads, I: Read, O: Write, E: Write>(
         → TellsQuietly (wants_progress line.now) (E.contents err.old) (E.contents err.new) }
 {
     match line {
+        CommandLine::OfImage {
+            source,
+            command: ImageCommand::Explore {
+                plan,
+                states,
+                turns,
+                record: None,
+                progress,
+            },
+        } => {
+            let wanted = Search {
+                harts: plan,
+                states: *states,
+                turns: *turns,
+                progress: *progress,
+            };
+            explored(alloc, line, *source, &wanted, input, out, err)
+        }
         CommandLine::Session { rank } => served(alloc, line, *rank, input, out, err),
         CommandLine::WordSession => served_words(alloc, line, input, out, err),
         CommandLine::OfRecord(
@@ -292,7 +311,8 @@ pub fn tool<'a, R: Threads + Wait + Sync, I: Read, O: Write, E: Write>(
     err: &mut E,
 ) -> u8
     // The words mean a command line: what it says of all the bytes stands on the output, or nothing: for want of memory
-    // or of a thread, or where the threads left what doesn't fit together; of `list` and `page` for want of memory a beginning.
+    // or of a thread, or where the threads left what doesn't fit together; for want of memory also, of `list` and `page` a
+    // beginning, and of `explore` the outcomes that were found.
     ensures answers { (line : Line) (bytes : List ℕ) → meaning_of (map (λ w. w.now) words.entry.now) ≡ Some line
         → I.remaining input.old ≡ Some bytes → result ≢ 6
         → Answers line bytes result (O.contents out.old) (O.contents out.new) }

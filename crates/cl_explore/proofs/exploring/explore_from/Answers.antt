@@ -2,6 +2,7 @@ use Rattle.cl_explore.specs.Ends.{findings}
 use Rattle.cl_explore.specs.How.{at_once, plainly}
 use Rattle.cl_explore.proofs.Finds.{explored_behind}
 use Rattle.cl_lines.proofs.Behind.{told_behind}
+use Rattle.cl_explore.proofs.Hears.{came_behind}
 use Rattle.cl_explore.proofs.exploring.explore_from.Goals as goal
 
 pub returns-in-Some-2-clause-ends : goal.returns-in-Some-2-clause-ends
@@ -35,3 +36,12 @@ pub returns-clause-progress : goal.returns-clause-progress
 returns-clause-progress g c =
     told_behind c.args.course.now.progress _ _ _ c.search_by_patterns.ensures.progress
     (told_behind c.args.course.now.progress _ _ _ c.search_at_once.ensures.progress c.search_plainly.ensures.progress)
+
+pub search_at_once-requires-clause-came : goal.search_at_once-requires-clause-came
+search_at_once-requires-clause-came g c =
+    came_behind c.args.image.now c.args.course.now.order.now c.args.turns.now c.in_ok-standing.standing
+    c.in_ok-standing.ensures.led
+
+pub search_plainly-requires-clause-came : goal.search_plainly-requires-clause-came
+search_plainly-requires-clause-came g c =
+    came_behind c.args.image.now c.args.course.now.order.now c.args.turns.now c.in_ok-again.again c.in_ok-again.ensures.led

@@ -6,22 +6,24 @@ use Rattle.cl_contests.specs.Kept.{search_of}
 use Rattle.cl_explore.specs.Ends.{findings}
 use Rattle.cl_explore.specs.How.{by_contest}
 use Rattle.cl_explore.proofs.Finds.{explored_behind, if_some_on, may_begin}
+use Rattle.cl_explore.proofs.Hears.{came_behind}
 use Rattle.cl_explore.proofs.exploring.search_by_patterns.Goals as goal
 
 pub returns-in_err-found-clause-progress : goal.returns-in_err-found-clause-progress
-returns-in_err-found-clause-progress g c = told_behind c.args.course.now.progress _ _ _ c.loop-try.invariant c.search.ensures.progress
+returns-in_err-found-clause-progress g c = told_behind c.args.course.now.progress _ _ _ c.loop-try.invariant.0 c.search.ensures.progress
 
 pub returns-then-is_some-clause-progress : goal.returns-then-is_some-clause-progress
-returns-then-is_some-clause-progress g c = told_behind c.args.course.now.progress _ _ _ c.loop-try.invariant c.search.ensures.progress
+returns-then-is_some-clause-progress g c = told_behind c.args.course.now.progress _ _ _ c.loop-try.invariant.0 c.search.ensures.progress
 
 pub returns-then-is_empty-clause-progress : goal.returns-then-is_empty-clause-progress
-returns-then-is_empty-clause-progress g c = told_behind c.args.course.now.progress _ _ _ c.loop-try.invariant c.search.ensures.progress
+returns-then-is_empty-clause-progress g c = told_behind c.args.course.now.progress _ _ _ c.loop-try.invariant.0 c.search.ensures.progress
 
 pub returns-in_err-add_all-clause-progress : goal.returns-in_err-add_all-clause-progress
-returns-in_err-add_all-clause-progress g c = told_behind c.args.course.now.progress _ _ _ c.loop-try.invariant c.search.ensures.progress
+returns-in_err-add_all-clause-progress g c = told_behind c.args.course.now.progress _ _ _ c.loop-try.invariant.0 c.search.ensures.progress
 
 pub loop-try-preserved : goal.loop-try-preserved
-loop-try-preserved g c = told_behind c.args.course.now.progress _ _ _ c.loop-try.invariant c.search.ensures.progress
+loop-try-preserved g c =
+    (told_behind c.args.course.now.progress _ _ _ c.loop-try.invariant.0 c.search.ensures.progress, c.search.ensures.holds)
 
 pub returns-then-is_some-clause-ends : goal.returns-then-is_some-clause-ends
 returns-then-is_some-clause-ends g c =
@@ -37,3 +39,8 @@ returns-then-is_some-clause-ends g c =
     (may_begin kept image order turns standing led (c.is_first_hart.ensures c.if-not-is_first_hart.false)
     (omega (arith, c.if-parts-ne1.false, same))
     c.in_ok-add_waits.ensures.waits (subst (TellsStart standing) c.if-not-may_start.false c.may_start.ensures)) from) c.in_ok-found.ensures.ends
+
+pub search-requires-clause-came : goal.search-requires-clause-came
+search-requires-clause-came g c =
+    came_behind c.args.image.now c.args.course.now.order.now c.args.turns.now c.in_ok-standing.standing
+    c.in_ok-standing.ensures.led

@@ -1,6 +1,8 @@
--- Nothing but progress was told.
+-- Nothing but progress was told, and what holds of the listener still does.
 use Rattle.cl_lines.specs.Telling.{TellsProgress}
 use Rattle.cl_explore.proofs.exploring.search_by_patterns.Given as goal
 
 abbrev pub invariant-loop-try : goal.invariant-loop-try
-invariant-loop-try g l = TellsProgress l.course.progress (g.E.Write.contents l.fn.err) (g.E.Write.contents l.err)
+invariant-loop-try g l =
+    TellsProgress l.course.progress (g.E.Write.contents l.fn.err) (g.E.Write.contents l.err)
+    × g.L.Listener.holds l.listener l.image l.course.order.now

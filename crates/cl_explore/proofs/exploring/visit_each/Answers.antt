@@ -1,10 +1,12 @@
-use Rattle.std.proofs.Common.{◌≡◌, ◌-◌, arith, inl, inr, subst, length, ◌<◌, refl}
+use Rattle.std.proofs.Common.{◌≡◌, ◌-◌, arith, inl, inr, subst, sym, length, ◌<◌, refl}
 use Rattle.std.proofs.lemmas.Bool.{cases_lt}
 use Rattle.cl_explore.specs.Covering.{HasRoomAt}
 use Rattle.cl_explore.specs.Ends.{AreEnough, HasLonger}
 use Rattle.cl_explore.proofs.Finds.{more_from, none_from, tells_from}
 use Rattle.cl_explore.proofs.exploring.visit_each.Goals as goal
 use Rattle.cl_explore.specs.How.{how_in}
+use Rattle.cl_explore.specs.Listening.{IsEndNode}
+use Rattle.cl_explore.proofs.Hears.{visited}
 use Rattle.cl_lines.proofs.Behind.{nothing_told, told_behind}
 use Rattle.cl_explore.proofs.exploring.visit_each.Goals.{then-rest-test+then-goes_on+else-not-is_deep, then-rest-test+else-goes_on, else-rest-test}
 
@@ -15,6 +17,8 @@ rest-init g c = (
       c.new.result.items c.new-2.result.items begun c.new.ensures.items c.new-2.ensures.items,
   omega (arith),
   nothing_told c.args.course.now.progress _,
+  c.requires.of,
+  c.requires.holds,
 )
 
 pub rest-preserved : goal.rest-preserved
@@ -30,7 +34,19 @@ rest-preserved g c =
           c.in_ok-visit.visit c.in_ok-visit.ensures.visits c.in_ok-note_visit.ensures.ends c.in_ok-note_visit.ensures.stuck,
       omega (arith, c.rest-test.true),
       told_behind c.args.course.now.progress _ _ _ c.rest.invariant.2 c.tell_progress.ensures,
+      (visited (how_in c.args.course.now) c.args.course.now.image.now c.args.course.now.order.now c.rest.search c.visit.new.self
+          c.rest.done c.rest.invariant.3 inside c.in_ok-visit.visit c.in_ok-visit.ensures.visits).0,
+      c.tell_end.ensures,
     )
+
+pub tell_end-requires-clause-end : goal.tell_end-requires-clause-end
+tell_end-requires-clause-end g c = λ is.
+    let course = c.args.course.now in
+    let old = c.rest.search.nodes in
+    let inside : c.rest.done < length old.items = omega (arith, c.goes_on.ensures.more c.if-goes_on.true, c.len.ensures, old.ok.0) in
+    subst (λ ks. IsEndNode course.image.now course.order.now ks c.rest.done) (sym c.as_slice-in-rest-2.ensures.value)
+    ((visited (how_in course) course.image.now course.order.now c.rest.search c.visit.new.self c.rest.done c.rest.invariant.3
+    inside c.in_ok-visit.visit c.in_ok-visit.ensures.visits).1 is)
 
 pub returns-clause-ends : goal.returns-clause-ends
 returns-clause-ends g c = λ standing room begun.

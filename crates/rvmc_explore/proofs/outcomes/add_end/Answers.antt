@@ -1,8 +1,7 @@
-use Rattle.std.proofs.Common.{List, ℕ, Some, ◌≡◌, ◌++◌, ◌∙◌, ap, drop, inl, inr, length, refl, slice_get, slice_set, subst, sym, take}
+use Rattle.std.proofs.Common.{List, ℕ, Some, ◌≡◌, ◌++◌, ◌∙◌, ap, drop, inl, inr, length, slice_get, slice_set, subst, sym, take}
 use Rattle.rvmc_explore.specs.InnerOutcomes.{IsBodyAt, one_end_more}
-use Rattle.rvmc_explore.specs.Outcomes.{HasBody}
-use Rattle.rvmc_explore.specs.declared.outcomes.Outcome.{Outcome}
 use Rattle.rvmc_explore.proofs.Marked.{changed_slice}
+use Rattle.rvmc_explore.proofs.Places.{is_unlike}
 use Rattle.rvmc_explore.proofs.outcomes.add_end.Goals as goal
 
 pub returns-in-Some : goal.returns-in-Some
@@ -25,12 +24,8 @@ returns-in-Some c =
     )
 
 pub returns-in_ok-push-in-None : goal.returns-in_ok-push-in-None
-returns-in_ok-push-in-None c =
-    let outcome : Outcome = record { node = c.args.node; body = c.args.body; ends = 1 } in
-    inr (
-      λ has.
-          c.in-None.ensures.new
-          (subst (HasBody c.as_slice.result.now) (sym c.as_slice-2.ensures.value)
-          (subst (λ os. HasBody os c.args.body.items) (sym c.as_slice.ensures.value) has)),
-      (outcome, refl, refl, refl, c.in_ok-push-in-None.ensures.items),
-    )
+returns-in_ok-push-in-None c = inr (
+  is_unlike c.args.told.now.items c.as_slice.result.now c.args.body.items c.as_slice-2.result.now c.as_slice.ensures.value
+      c.as_slice-2.ensures.value c.in-None.ensures.new,
+  (c.in_ok-outcome-in-None.outcome, c.in_ok-outcome-in-None.ensures, c.in_ok-push-in-None.ensures.items),
+)

@@ -3,4 +3,4 @@ use Rattle.rvmc_explore.proofs.Listed.{StuckSoFar}
 use Rattle.rvmc_explore.proofs.outcomes.tell.Given as goal
 
 abbrev pub invariant-loop-place : goal.invariant-loop-place
-invariant-loop-place l = StuckSoFar l.order l.image (findings l.found) l.place l.told.items
+invariant-loop-place l = StuckSoFar l.order l.image (findings l.found) l.fn.heard.items l.place l.told.items

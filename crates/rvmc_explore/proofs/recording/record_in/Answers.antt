@@ -1,12 +1,22 @@
-use Rattle.std.proofs.Common.{sym, ◌∙◌}
-use Rattle.rvmc_explore.proofs.ToEnds.{none_such, one_such}
+use Rattle.std.proofs.Common.{List, Some, ap, arith, subst, ◌-◌, ◌∙◌}
+use Rattle.cl_machine.specs.declared.steps.Step.{Step}
+use Rattle.cl_explore.proofs.Lists.{read_of}
+use Rattle.rvmc_explore.specs.InnerRecorded.{IsInOrder}
+use Rattle.rvmc_explore.proofs.ToEnds.{numbered_none, numbered_some}
 use Rattle.rvmc_explore.proofs.recording.record_in.Goals as goal
 
-pub returns-in-None : goal.returns-in-None
-returns-in-None c =
-    none_such c.args.found.now c.args.told.now c.args.number (sym c.numbered.ensures ∙ c.in-None.is)
+pub returns-then-before-told : goal.returns-then-before-told
+returns-then-before-told c =
+    numbered_none c.args.told.now c.args.number (c.args.number - 1) (omega (arith, c.if-number-eq0.false))
+    (omega (arith, c.if-before-told.true))
 
-pub returns-in_ok-steps_to-in-Some : goal.returns-in_ok-steps_to-in-Some
-returns-in_ok-steps_to-in-Some c =
-    one_such c.args.found.now c.args.told.now c.args.number c.in-Some.node _
-    (sym c.numbered.ensures ∙ c.in-Some.is) c.in_ok-steps_to-in-Some.ensures
+pub returns : goal.returns
+returns c =
+    let told = c.args.told.now in
+    let before = c.args.number - 1 in
+    let one = c.index-told-before.result in (
+      one,
+      numbered_some told c.args.number before one (omega (arith, c.if-number-eq0.false))
+          (read_of told before one (omega (arith, c.if-before-told.false)) c.index-told-before.is),
+      subst (λ (turns : List Step). IsInOrder turns _) (c.as_slice.ensures.value ∙ c.in_ok-steps.ensures) c.in_ok-in_order.ensures,
+    )

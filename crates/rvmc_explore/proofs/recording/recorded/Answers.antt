@@ -3,21 +3,29 @@ use Rattle.std.specs.Option.{option_map}
 use Rattle.cl_explore.specs.Ends.{findings}
 use Rattle.cl_moves.specs.Standing.{first_node}
 use Rattle.rvmc_explore.specs.InnerRecorded.{RecordsIn}
-use Rattle.rvmc_explore.proofs.ToEnds.{records_end}
+use Rattle.rvmc_explore.proofs.Heard.{none_heard}
 use Rattle.rvmc_explore.proofs.Listed.{within}
+use Rattle.rvmc_explore.proofs.ToEnds.{records_end}
 use Rattle.rvmc_explore.proofs.recording.recorded.Goals as goal
 
-pub tell-requires : goal.tell-requires
-tell-requires g c =
+pub explore-requires-clause-holds : goal.explore-requires-clause-holds
+explore-requires-clause-holds g c =
+    none_heard c.args.asked.now.order.now c.args.image.now c.new-hearer.result.told.items c.new-hearer.ensures
+
+pub tell-requires-clause-explored : goal.tell-requires-clause-explored
+tell-requires-clause-explored g c = (first_node c.args.image.now, c.in_ok-found.ensures.ends)
+
+pub tell-requires-clause-within : goal.tell-requires-clause-within
+tell-requires-clause-within g c =
     let image = c.args.image.now in
     within image c.args.asked.now.order.now (first_node image) (findings c.in_ok-found.found) c.parts-parts.ensures.limits
     c.in_ok-found.ensures.ends
 
 pub returns-clause-steps : goal.returns-clause-steps
 returns-clause-steps g c =
-    records_end c.args.image.now c.args.asked.now.order.now c.args.asked.now.states c.args.asked.now.turns c.in_ok-found.found
-    c.in_ok-told.told.items c.args.number _ c.parts-parts.ensures.limits
+    records_end c.args.image.now c.args.asked.now.order.now c.args.asked.now.states c.args.asked.now.turns
+    (findings c.in_ok-found.found) c.in_ok-told.told.items c.args.number _ c.parts-parts.ensures.limits
     (record { explored = c.in_ok-found.ensures.ends; bounded = c.in_ok-found.ensures.most })
-    c.in_ok-told.ensures
-    (subst (λ os. RecordsIn c.in_ok-found.found os c.args.number
-    (option_map (λ s. s.items) c.in_ok-record_in.field-0)) c.as_slice.ensures.value c.in_ok-record_in.ensures)
+    c.in_ok-told.ensures.told
+    (subst (λ os. RecordsIn os c.args.number (option_map (λ s. s.items) c.in_ok-record_in.field-0)) c.as_slice.ensures.value
+    c.in_ok-record_in.ensures)

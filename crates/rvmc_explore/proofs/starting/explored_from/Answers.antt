@@ -1,7 +1,8 @@
 use Rattle.std.proofs.Common.{List, ℕ, ◌++◌, ◌∙◌, ap, refl, subst, sym}
-use Rattle.cl_explore.specs.Ends.{findings}
+use Rattle.cl_explore.specs.Ends.{ExploredFrom, findings}
 use Rattle.rvmc_starts.specs.Parts.{part_text}
 use Rattle.rvmc_starts.specs.declared.parts.Part.{Part}
+use Rattle.rvmc_explore.specs.InnerOutcomes.{AreHeard}
 use Rattle.rvmc_explore.specs.Outcomes.{AreTold}
 use Rattle.rvmc_explore.specs.Starting.{AreEndsTold}
 use Rattle.rvmc_explore.specs.Telling.{findings_status}
@@ -9,8 +10,19 @@ use Rattle.rvmc_explore.proofs.Endless.{says_none_stuck}
 use Rattle.rvmc_explore.proofs.Listed.{within}
 use Rattle.rvmc_explore.proofs.starting.explored_from.Goals as goal
 
-pub tell-requires : goal.tell-requires
-tell-requires g c =
+pub tell-requires-clause-explored : goal.tell-requires-clause-explored
+tell-requires-clause-explored g c =
+    let behind = c.in_ok-found.ensures.ends in
+    (behind.start, subst (λ order. ExploredFrom c.args.image.now order behind.start (findings c.in_ok-found.found))
+    (sym c.as_slice-order.ensures) behind.explored)
+
+pub tell-requires-clause-heard : goal.tell-requires-clause-heard
+tell-requires-clause-heard g c =
+    subst (λ order. AreHeard order c.args.image.now c.searched.new.hearer.told.items) (sym c.as_slice-order.ensures)
+    c.searched.ensures.heard
+
+pub tell-requires-clause-within : goal.tell-requires-clause-within
+tell-requires-clause-within g c =
     let behind = c.in_ok-found.ensures.ends in
     within c.args.image.now c.args.start.now.harts behind.start (findings c.in_ok-found.found)
     c.parts-parts.ensures.limits behind.explored
@@ -42,7 +54,7 @@ returns-clause-told g c =
         behind = c.in_ok-found.ensures.ends;
         bounded = c.in_ok-found.ensures.most;
         are = subst (λ order. AreTold order c.args.image.now (findings found) told) c.as_slice-order.ensures
-            c.in_ok-told.ensures;
+            c.in_ok-told.ensures.told;
       };
       part = part;
       of = record {

@@ -1,5 +1,5 @@
-use Rattle.std.proofs.Common.{arith}
-use Rattle.cl_explore.proofs.Lists.{at_inside}
+use Rattle.std.proofs.Common.{arith, subst, sym}
+use Rattle.cl_explore.proofs.Lists.{read_of}
 use Rattle.rvmc_explore.proofs.Listed.{none_left, one_more}
 use Rattle.rvmc_explore.proofs.telling.put_told.Goals as goal
 
@@ -10,10 +10,11 @@ pub loop-place-preserved : goal.loop-place-preserved
 loop-place-preserved c =
     let told = c.args.told.now in
     let place = c.loop-place.place in
-    let one = at_inside told place c.loop-place-test.true in
+    let one = c.index-told-place.result in
+    let there = read_of told place one c.loop-place-test.true c.index-told-place.is in
     λ whole rest. c.loop-place.invariant whole
-    (one_more told place one.0 c.loop-place.text.items c.put_one.new.text.items whole one.1
-    (c.in_ok-put_one.ensures one.0 one.1) rest)
+    (one_more told place one c.loop-place.text.items c.put_outcome.new.text.items whole there
+    c.in_ok-put_outcome.ensures rest)
 
 pub returns : goal.returns
 returns c =

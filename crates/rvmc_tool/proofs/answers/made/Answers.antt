@@ -5,10 +5,6 @@ use Rattle.rvmc_tool.specs.Answers.{Makes}
 use Rattle.rvmc_tool.specs.Making.{RefusesImage}
 use Rattle.rvmc_tool.proofs.answers.made.Goals as goal
 
-pub returns-in-Explore-clause-fault : goal.returns-in-Explore-clause-fault
-returns-in-Explore-clause-fault g c =
-    subst (λ command. IfErr c.explore.result (RefusesImage command c.args.image.now)) (sym c.in-Explore.is) c.explore.ensures.fault
-
 pub returns-in-Split-clause-fault : goal.returns-in-Split-clause-fault
 returns-in-Split-clause-fault g c =
     subst (λ command. IfErr c.split.result (RefusesImage command c.args.image.now)) (sym c.in-Split.is) c.split.ensures.fault
@@ -17,11 +13,6 @@ pub returns-in-ExploreFrom-clause-fault : goal.returns-in-ExploreFrom-clause-fau
 returns-in-ExploreFrom-clause-fault g c =
     subst (λ command. IfErr c.explore_from.result (RefusesImage command c.args.image.now)) (sym c.in-ExploreFrom.is)
     c.explore_from.ensures.fault
-
-pub returns-in-Explore-clause-says : goal.returns-in-Explore-clause-says
-returns-in-Explore-clause-says g c =
-    subst (λ command. IfOk c.explore.result (λ answer. Makes command c.args.image.now (output_bytes answer.output)
-    (end_status answer.end))) (sym c.in-Explore.is) c.explore.ensures.says
 
 pub returns-in-Split-clause-says : goal.returns-in-Split-clause-says
 returns-in-Split-clause-says g c =

@@ -1,5 +1,5 @@
 use Rattle.cl_explore.proofs.Lists.{read_of}
-use Rattle.cl_explore.proofs.exploring.has_longer.Goals as goal
+use Rattle.cl_explore.proofs.bounds.has_longer.Goals as goal
 
 pub returns-then-is_longer : goal.returns-then-is_longer
 returns-then-is_longer c = λ is. (

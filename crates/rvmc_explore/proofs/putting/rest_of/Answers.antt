@@ -1,0 +1,61 @@
+use Rattle.std.proofs.Common.{List, [], ℕ, refl, ◌≡◌, ◌+◌, ◌∙◌, ◌++◌, ap, drop, length, rules, subst, sym}
+use Rattle.std.proofs.lemmas.List.{append_assoc}
+use Rattle.cl_explore.specs.Ends.{findings}
+use Rattle.cl_moves.specs.Standing.{first_node}
+use Rattle.rvmc_explore.specs.Telling.{AddsOutcomes, ends_lines, last_line, unending_line}
+use Rattle.rvmc_explore.proofs.Endless.{says_none_stuck}
+use Rattle.rvmc_explore.proofs.Heard.{all_behind}
+use Rattle.rvmc_explore.proofs.Listed.{within}
+use Rattle.rvmc_explore.proofs.putting.rest_of.Goals as goal
+
+pub tell-requires-clause-explored : goal.tell-requires-clause-explored
+tell-requires-clause-explored c = (first_node c.args.image.now, (c.requires.searched).explored)
+
+pub tell-requires-clause-within : goal.tell-requires-clause-within
+tell-requires-clause-within c =
+    within c.args.image.now c.args.asked.now.order.now (first_node c.args.image.now) (findings c.args.found.now)
+    c.parts-parts.ensures.limits (c.requires.searched).explored
+
+pub returns : goal.returns
+returns c = λ before lines.
+    let image = c.args.image.now in
+    let order = c.args.asked.now.order.now in
+    let found = c.args.found.now in
+    let heard = c.args.heard in
+    let told = c.in_ok-told.told.items in
+    let body = c.put_told.new.text.items in
+    let counts = ends_lines 1 told in
+    let line = unending_line c.in_ok-unending.unending in
+    let last = last_line (length told) (length found.nodes.items) found.left found.long c.args.asked.now.turns in
+    let explored = (c.requires.searched).explored in
+    let many : c.len-before.result ≡ length heard.items = c.len-before.ensures ∙ heard.ok.0 in
+    let counted : c.put_counts.new.text.items ≡ body ++ counts =
+    c.in_ok-put_counts.ensures ∙ ap (λ os. body ++ ends_lines 1 os) c.as_slice-2.ensures.value in
+    let first : c.extend_from_slice.new.self.items ≡ c.put_counts.new.text.items ++ line = search rules in
+    let closed : c.extend_from_slice-2.new.self.items ≡ c.extend_from_slice.new.self.items ++ last = search rules in
+    let whole : c.extend_from_slice-2.new.self.items ≡ body ++ (counts ++ (line ++ last)) =
+    closed
+    ∙ (ap (λ text. text ++ last) (first ∙ ap (λ (text : List ℕ). text ++ line) counted)
+    ∙ (append_assoc (body ++ counts) line last ∙ append_assoc body counts (line ++ last))) in
+    let those : AddsOutcomes (length heard.items + 1) (drop (length heard.items) told) [] body =
+    subst (λ n. AddsOutcomes (n + 1) (drop n told) [] body) many
+    (subst (λ (old : List ℕ). AddsOutcomes (c.len-before.result + 1) (drop c.len-before.result told) old body)
+    c.new-text.ensures.items
+    (subst (λ os. AddsOutcomes (c.len-before.result + 1) (drop c.len-before.result os) c.new-text.result.items body)
+    c.as_slice.ensures.value c.in_ok-put_told.ensures)) in
+    record {
+      told = told;
+      listed = record {
+        found = findings found;
+        searched = c.requires.searched;
+        are = c.in_ok-told.ensures.told;
+      };
+      long = found.long;
+      unending = c.in_ok-unending.unending;
+      unending_is = c.in_ok-unending.ensures image order (first_node image) ([], refl) explored;
+      none_stuck = says_none_stuck image order (first_node image) (findings found) c.parts-parts.ensures.limits explored;
+      body = before ++ body;
+      lines = all_behind heard.items told c.in_ok-told.ensures.begins before body lines those;
+      spelled = ap (λ (text : List ℕ). before ++ text) whole ∙ sym (append_assoc before body (counts ++ (line ++ last)));
+      status_is = search rules;
+    }

@@ -1,0 +1,144 @@
+//! What a search tells, written as it is found.
+
+ghost use Rattle.std.specs.Prelude.{◌≡◌, ◌<◌, ◌++◌, [], IfErr, IfOk, List, length, true, ℕ};
+ghost use Rattle.std.specs.Io.KnownBytes.{Appends};
+ghost use Rattle.cl_explore.specs.Ends.{findings};
+ghost use Rattle.cl_lines.specs.Telling.{TellsProgress};
+ghost use Rattle.rvmc_explore.specs.InnerOutcomes.{AreHeard};
+ghost use Rattle.rvmc_explore.specs.Searched.{IsSearched};
+ghost use Rattle.rvmc_explore.specs.InnerTelling.{WereTold};
+ghost use Rattle.rvmc_explore.specs.Telling.{AddsOutcomes, IsBegun, Tells};
+
+use crate::asked::Asked;
+use crate::closing::last_line;
+use crate::counting::put_counts;
+use crate::judging::search_status;
+use crate::outcomes::{Outcome, tell};
+use crate::teller::{Outset, Teller, put};
+use crate::telling::{Told, put_told};
+use crate::unending::{is_unending, unending_line};
+use cl_explore::{Course, Exploration, explore};
+use cl_moves::MoveFault;
+use rv_image_types::Image;
+use std::alloc::{AllocError, Global};
+use std::io::Write;
+use std::marker::Brand;
+
+/// What became of a search that was told as it was found.
+#[derive(Clone, Copy, Drop)]
+pub struct Searched {
+    /// Whether the writer took all of it.
+    pub taken: bool,
+    /// Whether states are left because a rank took more turns by itself than it was let, as the last line says. Never where the
+    /// writer didn't take all.
+    pub long: bool,
+    /// The status of the search: 4, that not all is told, where the writer didn't take all.
+    pub status: u8,
+}
+
+/// The search, and each end told as it is found, behind whatever the writer held.
+fn search_telling<K: Outset, O: Write, E: Write>(
+    alloc: Global,
+    image: &Image,
+    asked: &Asked<'_>,
+    teller: &mut Teller<'_, O, K>,
+    err: &mut E,
+) -> Result<Exploration, MoveFault>
+    requires order { 0 < length asked.now.order.now }
+    requires name { teller.old.out.ghost_name ≡ K.name }
+    requires before { O.contents teller.old.out.now ≡ K.before }
+    requires none { teller.old.told.items ≡ [] }
+    requires taken { teller.old.taken ≡ true }
+    ensures same_reference { teller.new.out.ghost_name ≡ teller.old.out.ghost_name }
+    ensures heard { AreHeard asked.now.order.now image.now teller.new.told.items }
+    ensures told { WereTold teller.new.told.items teller.new.taken (O.contents teller.old.out.now)
+        (O.contents teller.new.out.now) }
+    ensures searched { IfOk result (λ found.
+        IsSearched image.now asked.now.order.now asked.now.states asked.now.turns (findings found)) }
+    ensures progress { TellsProgress asked.now.progress (E.contents err.old) (E.contents err.new) }
+{
+    let course = Course {
+        alloc,
+        order: asked.order,
+        most: asked.turns,
+        progress: asked.progress,
+    };
+    explore(&course, image, asked.states, teller, err)
+}
+
+/// What is told behind ends that were told as they were found, and the status of the search: ends that weren't told yet, ranks
+/// that are stuck, how many ends look like an outcome, whether some runs go on for ever, and whether these are all.
+fn rest_of(
+    alloc: Global,
+    image: &Image,
+    asked: &Asked<'_>,
+    found: &Exploration,
+    heard: Vec<Outcome>,
+) -> Result<Told, AllocError>
+    requires searched { IsSearched image.now asked.now.order.now asked.now.states asked.now.turns (findings found.now) }
+    requires heard { AreHeard asked.now.order.now image.now heard.items }
+    ensures { IfOk result (λ rest. (text : List ℕ) → AddsOutcomes 1 heard.items [] text
+        → Tells image.now asked.now.order.now asked.now.states asked.now.turns (text ++ rest.text.items) rest.status) }
+{
+    // ghost: brings into scope that the parts are those of an image; no effect at run time
+    let _parts = image.parts();
+    let before = heard.len();
+    let told = tell(alloc, image, asked.order, found, heard)?;
+    let mut text = Vec::new(alloc);
+    put_told(alloc, &mut text, image, told.as_slice(), before)?;
+    put_counts(alloc, &mut text, told.as_slice())?;
+    let unending = is_unending(alloc, found)?;
+    let line = unending_line(alloc, unending)?;
+    text.extend_from_slice(line.as_bytes())?;
+    let last = last_line(alloc, found, told.len(), asked.turns)?;
+    text.extend_from_slice(last.as_bytes())?;
+    let status = search_status(found, asked.order, unending);
+    Ok(Told { text, status })
+}
+
+/// What a search tells, written on `out` as it is found: of each end its ranks, and what each waits for that waits there; then of
+/// ranks that are stuck while others run on what they wait for; of each the first message by which it differs from the first
+/// one; behind them, of each that two or more ends have, how many do; whether some runs go on for ever, to no end; in the last
+/// line whether these are all. No two have the same text. The status is 4 where they aren't all, else 3 where a hart trapped
+/// at an end, else 7 where a hart that takes turns waits at one, or some ranks are stuck, else 8 where some runs go on for
+/// ever, else 0. Where that is wanted, lines on `err` say how far the search came.
+///
+/// Refusals: Clock, Memory. What was found before stays. Where the writer didn't take all, that is answered.
+#[tactic(auto, using(crate::proofs::Heard::cut_by, crate::proofs::Heard::whole_by))]
+pub fn put_explored<O: Write, E: Write>(
+    alloc: Global,
+    image: &Image,
+    asked: &Asked<'_>,
+    out: &mut O,
+    err: &mut E,
+) -> Result<Searched, MoveFault>
+    requires { 0 < length asked.now.order.now }
+    ensures told { IfOk result (λ searched. searched.taken ≡ true → (text : List ℕ)
+        × Tells image.now asked.now.order.now asked.now.states asked.now.turns text searched.status
+        × Appends (O.contents out.old) (O.contents out.new) text) }
+    ensures cut { IfErr result (λ fault. (text : List ℕ) × IsBegun image.now asked.now.order.now text
+        × Appends (O.contents out.old) (O.contents out.new) text) }
+    ensures progress { TellsProgress asked.now.progress (E.contents err.old) (E.contents err.new) }
+{
+    let mut teller: Teller<'_, O, Brand> = Teller::new(alloc, out);
+    let found = search_telling::<Brand, O, E>(alloc, image, asked, &mut teller, err);
+    let Teller {
+        told,
+        taken,
+        out,
+        of: _of,
+    } = teller;
+    if !taken {
+        return Ok(Searched {
+            taken: false,
+            long: false,
+            status: 4,
+        });
+    }
+    let Told { text, status } = rest_of(alloc, image, asked, &found?, told)?;
+    Ok(Searched {
+        taken: put(out, text.as_slice()),
+        long: text.as_slice().ends_with(b" turns alone\n"),
+        status,
+    })
+}
