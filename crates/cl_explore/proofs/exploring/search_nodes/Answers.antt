@@ -7,6 +7,10 @@ returns-in_ok-follow_if_cut-in-Some-clause-ends g c =
     c.in_ok-follow_if_cut-in-Some.ensures.ends c.args.standing.now
     ((rw c.in-Some.is at c.in_ok-visit_each.ensures.ends) c.args.standing.now c.requires.room c.in_ok-long.ensures.begins)
 
+pub returns-in_ok-follow_if_cut-in-Some-clause-most : goal.returns-in_ok-follow_if_cut-in-Some-clause-most
+returns-in_ok-follow_if_cut-in-Some-clause-most g c =
+    c.in_ok-follow_if_cut-in-Some.ensures.most (rw c.in-Some.is at c.in_ok-visit_each.ensures.most)
+
 pub visit_each-requires-clause-of : goal.visit_each-requires-clause-of
 visit_each-requires-clause-of g c =
     begun (how_in c.args.course.now) c.args.course.now.image.now c.args.course.now.order.now c.args.standing.now
