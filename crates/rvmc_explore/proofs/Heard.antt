@@ -1,5 +1,5 @@
 -- Outcomes that were heard of while a search went on, and what was told of them.
-use Rattle.std.specs.Prelude.{ℕ, suc, ◌+◌, ◌<◌, ◌≡◌, List, [], ◌∷◌, ◌++◌, Bool, true, Option, drop, length, slice_get, Some}
+use Rattle.std.specs.Prelude.{ℕ, suc, ◌+◌, ◌<◌, ◌≡◌, List, [], ◌∷◌, ◌++◌, Bool, true, IfErr, Option, drop, length, slice_get, Some, Result, Ok, Err}
 use Rattle.std.specs.Io.KnownBytes.{Appends}
 use Rattle.std.proofs.KnownBytes.{Appends-nil, Appends-trans}
 use Rattle.std.proofs.Common.{refl, sym, ap, ◌∙◌, subst, arith, inl, inr}
@@ -40,7 +40,7 @@ pub none_heard : (order : List ℕ) (image : ImageParts) (told : List Outcome) �
 none_heard order image told none =
     let no : (k : ℕ) (outcome : Outcome) → slice_get told k ≡ Some outcome → ⊥ =
     λ k outcome at.
-        let no_one : slice_get [] k ≡ Some outcome = subst (λ os. slice_get os k ≡ Some outcome) none at in absurd (cc) in
+    let no_one : slice_get [] k ≡ Some outcome = subst (λ os. slice_get os k ≡ Some outcome) none at in absurd (cc) in
     record {
       each = λ k outcome at. absurd (no k outcome at);
       uncounted = λ k outcome at. absurd (no k outcome at);
@@ -169,6 +169,11 @@ begun_by order image told text heard lines = record {
   apart = heard.apart;
   lines = lines;
 }
+
+-- whatever the error is
+pub whatever_err : {A E : Type 0} (result : Result A E) (P : Type 0) → P → IfErr result (λ fault. P)
+whatever_err (Ok value) P is = tt
+whatever_err (Err fault) P is = is
 
 -- where memory was refused, what was told is what was found so far
 pub cut_by : (order : List ℕ) (image : ImageParts) (told : List Outcome) (taken : Bool) (before now : Option (List ℕ))

@@ -1,5 +1,5 @@
 -- Outcomes, one behind another.
-use Rattle.std.specs.Prelude.{ℕ, zero, suc, ◌+◌, ◌^◌, ◌<◌, ◌≤◌, ◌≡◌, ◌⊎◌, List, [], ◌∷◌, ◌++◌, Bool, true, false, cond, drop, length, map, slice_get, slice_set, Some}
+use Rattle.std.specs.Prelude.{ℕ, zero, suc, ◌+◌, ◌^◌, ◌<◌, ◌≤◌, ◌≡◌, ◌⊎◌, List, [], ◌∷◌, ◌++◌, Bool, true, false, cond, drop, length, slice_get, slice_set, Some}
 use Rattle.std.specs.Str.{bytes_eq}
 use Rattle.std.proofs.Common.{refl, sym, ap, ◌∙◌, subst, arith, drop-cons, inl, inr}
 use Rattle.std.proofs.lemmas.Bool.{cases_eq}

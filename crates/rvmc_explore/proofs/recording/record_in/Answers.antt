@@ -1,4 +1,4 @@
-use Rattle.std.proofs.Common.{List, Some, ap, arith, subst, ◌-◌, ◌∙◌}
+use Rattle.std.proofs.Common.{List, arith, subst, ◌-◌, ◌∙◌}
 use Rattle.cl_machine.specs.declared.steps.Step.{Step}
 use Rattle.cl_explore.proofs.Lists.{read_of}
 use Rattle.rvmc_explore.specs.InnerRecorded.{IsInOrder}
@@ -18,5 +18,5 @@ returns c =
       one,
       numbered_some told c.args.number before one (omega (arith, c.if-number-eq0.false))
           (read_of told before one (omega (arith, c.if-before-told.false)) c.index-told-before.is),
-      subst (λ (turns : List Step). IsInOrder turns _) (c.as_slice.ensures.value ∙ c.in_ok-steps.ensures) c.in_ok-in_order.ensures,
+      subst (λ (turns : List Step). IsInOrder turns c.in_ok-in_order.field-0.items) (c.as_slice.ensures.value ∙ c.in_ok-steps.ensures) c.in_ok-in_order.ensures,
     )

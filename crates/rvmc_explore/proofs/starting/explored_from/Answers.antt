@@ -12,9 +12,11 @@ use Rattle.rvmc_explore.proofs.starting.explored_from.Goals as goal
 
 pub tell-requires-clause-explored : goal.tell-requires-clause-explored
 tell-requires-clause-explored g c =
-    let behind = c.in_ok-found.ensures.ends in
-    (behind.start, subst (λ order. ExploredFrom c.args.image.now order behind.start (findings c.in_ok-found.found))
-    (sym c.as_slice-order.ensures) behind.explored)
+    let behind = c.in_ok-found.ensures.ends in (
+      behind.start,
+      subst (λ order. ExploredFrom c.args.image.now order behind.start (findings c.in_ok-found.found))
+          (sym c.as_slice-order.ensures) behind.explored,
+    )
 
 pub tell-requires-clause-heard : goal.tell-requires-clause-heard
 tell-requires-clause-heard g c =

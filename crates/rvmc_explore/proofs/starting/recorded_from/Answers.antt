@@ -10,9 +10,11 @@ use Rattle.rvmc_explore.proofs.starting.recorded_from.Goals as goal
 
 pub tell-requires-clause-explored : goal.tell-requires-clause-explored
 tell-requires-clause-explored g c =
-    let behind = c.in_ok-found.ensures.ends in
-    (behind.start, subst (λ order. ExploredFrom c.args.image.now order behind.start (findings c.in_ok-found.found))
-    (sym c.as_slice.ensures) behind.explored)
+    let behind = c.in_ok-found.ensures.ends in (
+      behind.start,
+      subst (λ order. ExploredFrom c.args.image.now order behind.start (findings c.in_ok-found.found))
+          (sym c.as_slice.ensures) behind.explored,
+    )
 
 pub tell-requires-clause-heard : goal.tell-requires-clause-heard
 tell-requires-clause-heard g c =

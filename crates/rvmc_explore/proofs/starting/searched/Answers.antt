@@ -1,5 +1,3 @@
-use Rattle.std.proofs.Common.{subst, sym}
-use Rattle.rvmc_explore.specs.InnerOutcomes.{AreHeard}
 use Rattle.rvmc_explore.proofs.Heard.{none_heard}
 use Rattle.rvmc_explore.proofs.starting.searched.Goals as goal
 

@@ -1,4 +1,4 @@
-use Rattle.std.proofs.Common.{arith, subst, sym}
+use Rattle.std.proofs.Common.{arith}
 use Rattle.cl_explore.proofs.Lists.{read_of}
 use Rattle.rvmc_explore.proofs.Listed.{none_left, one_more}
 use Rattle.rvmc_explore.proofs.telling.put_told.Goals as goal

@@ -1,8 +1,16 @@
+use Rattle.std.proofs.Common.{subst}
+use Rattle.rvmc_explore.specs.InnerOutcomes.{IsNewEnd}
 use Rattle.rvmc_explore.proofs.Heard.{heard_more}
 use Rattle.rvmc_explore.proofs.hearing.HearerListener.end.Goals as goal
 
 pub returns : goal.returns
-returns c = record {
-  holds = heard_more c.args.order.now c.args.image.now c.args.self.now.told.items c.push.new.self.items c.in-Some.outcome
-      c.in-Some.ensures c.in_ok-push.ensures.items c.requires.holds;
-}
+returns c =
+    let order = c.args.order.now in
+    let image = c.args.image.now in
+    let told = c.args.self.now.told.items in
+    let outcome = c.in-Some.outcome in
+    record {
+      holds = heard_more order image told c.push.new.self.items outcome
+          (subst (λ os. IsNewEnd order image os outcome) c.as_slice.ensures.value (rw c.in-Some.is at c.in_ok-outcome.ensures))
+          c.in_ok-push.ensures.items c.requires.holds;
+    }

@@ -1,10 +1,14 @@
-use Rattle.std.proofs.Common.{ap, length, subst, ◌+◌, ◌∙◌}
+use Rattle.std.proofs.Common.{[], ℕ, List, length, subst, true, ◌+◌, ◌≡◌}
+use Rattle.std.specs.Io.KnownBytes.{Appends}
+use Rattle.rvmc_explore.specs.InnerOutcomes.{IsNewEnd}
 use Rattle.rvmc_explore.specs.Telling.{AddsOutcome}
 use Rattle.rvmc_explore.proofs.Heard.{heard_more, one_told_more}
 use Rattle.rvmc_explore.proofs.teller.TellerListener.end.Goals as goal
 
 pub returns : goal.returns
 returns g c =
+    let order = c.args.order.now in
+    let image = c.args.image.now in
     let told = c.args.self.now.told.items in
     let new = c.push.new.self.items in
     let outcome = c.in-Some.outcome in
@@ -12,12 +16,16 @@ returns g c =
     record {
       holds = (
         (c.requires.holds).0,
-        heard_more c.args.order.now c.args.image.now told new outcome c.in-Some.ensures c.in_ok-push.ensures.items
-            (c.requires.holds).1,
-        one_told_more told new outcome c.args.self.now.taken c.put_behind.result g.K.Outset.before
-            (g.O.Write.contents c.args.self.now.out.now) (g.O.Write.contents c.put_behind.new.out) piece
+        heard_more order image told new outcome
+            (subst (λ os. IsNewEnd order image os outcome) c.as_slice.ensures.value (rw c.in-Some.is at c.in_ok-outcome.ensures))
+            c.in_ok-push.ensures.items (c.requires.holds).1,
+        one_told_more told new outcome c.args.self.now.taken c.put_behind-self.result g.K.Outset.before
+            (g.O.Write.contents c.args.self.now.out.now) (g.O.Write.contents c.put_behind-self.new.out) piece
             c.in_ok-push.ensures.items
-            (subst (λ os. AddsOutcome (length os + 1) outcome _ piece) c.as_slice-2.ensures.value c.in_ok-text.ensures)
-            c.put_behind.ensures (c.requires.holds).2,
+            (subst (λ os. AddsOutcome (length os + 1) outcome [] piece) c.as_slice-2.ensures.value c.in_ok-text.ensures)
+            (subst (λ (text : List ℕ). c.put_behind-self.result ≡ true → (c.args.self.now.taken ≡ true)
+            × Appends (g.O.Write.contents c.args.self.now.out.now) (g.O.Write.contents c.put_behind-self.new.out) text)
+            c.as_slice-3.ensures.value c.put_behind-self.ensures)
+            (c.requires.holds).2,
       );
     }
