@@ -44,6 +44,7 @@ impl<'a, R: Wait> Desk<R> for LockedDesk<'a> {
     ghost gives = { λ before rank hart clock request told after. (j : HubHistory) ×
         (k : HubHistory) × Answered j rank hart clock request told k };
 
+    #[inline(always)]
     fn call(&mut self, rt: &R, rank: u8, hart: u8, clock: Stamp, request: Request) -> Replied {
         let mut hub = self.hub.lock(rt);
         call_hub(&mut *hub, rank, hart, clock, request)
@@ -63,6 +64,7 @@ impl<'a, R> Desk<R> for PlainDesk<'a> {
     ghost gives = { λ before rank hart clock request told after. (after.hub.ghost_name
         ≡ before.hub.ghost_name) × Answered before.hub.now rank hart clock request told after.hub.now };
 
+    #[inline(always)]
     fn call(&mut self, _rt: &R, rank: u8, hart: u8, clock: Stamp, request: Request) -> Replied {
         call_hub(self.hub, rank, hart, clock, request)
     }
@@ -70,6 +72,7 @@ impl<'a, R> Desk<R> for PlainDesk<'a> {
 
 /// A call of the hub itself.
 #[tactic(auto, using(crate::proofs::Clocks::is_fault))]
+#[inline(always)]
 fn call_hub(hub: &mut Hub, rank: u8, hart: u8, clock: Stamp, request: Request) -> Replied
     requires { clock < 2 ^ 62 }
     ensures answered { Answered hub.old rank hart clock request result hub.new }

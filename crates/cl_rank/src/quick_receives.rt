@@ -22,6 +22,7 @@ use rv_hart::{Hart, Mode, Wait};
 use rv_memory::{RankMemory, SparePages};
 
 /// Whether a running hart is at an ECALL that is a RECV which wants no status.
+#[inline(always)]
 fn is_at_recv(hart: &Hart, memory: &RankMemory) -> bool
     ensures running { IsTrue result → hart.now.mode ≡ Running }
     ensures ecall { IsTrue result → is_ecall_of (word_at memory.now hart.now.pc) ≡ true }
@@ -37,6 +38,7 @@ fn is_at_recv(hart: &Hart, memory: &RankMemory) -> bool
 }
 
 /// The arguments of a receive.
+#[inline(always)]
 fn receiving_of(hart: &Hart) -> Receiving
     ensures { result ≡ receiving_by (argument hart.now) }
 {
@@ -50,6 +52,7 @@ fn receiving_of(hart: &Hart) -> Receiving
 }
 
 /// Whether a receive is right, doesn't name the null process, and the pages of its buffer are there.
+#[inline(always)]
 fn is_roomy(site: &Site, memory: &RankMemory, receiving: &Receiving) -> bool
     ensures { IsTrue result → IsRoomyReceive site.now memory.now receiving.now }
 {
@@ -68,6 +71,7 @@ fn is_roomy(site: &Site, memory: &RankMemory, receiving: &Receiving) -> bool
 }
 
 /// What such a receive asks the hub.
+#[inline(always)]
 fn request_of(site: &Site, memory: &RankMemory, receiving: &Receiving) -> Request
     requires { IsRoomyReceive site.now memory.now receiving.now }
     ensures { result ≡ request.Recv true receiving.now.comm
@@ -83,6 +87,7 @@ fn request_of(site: &Site, memory: &RankMemory, receiving: &Receiving) -> Reques
 
 /// The receive of a hart whose turn is a RECV of this kind, and what it asks. Any other turn is left to the table of
 /// calls.
+#[inline(always)]
 pub(crate) fn received(state: &RankState, hart: u8) -> Option<(Receiving, Request)>
     requires { hart < vec_len state.now.harts }
     ensures { IfSome result (λ it. Receives state.now hart it.0 it.1) }
@@ -102,6 +107,7 @@ pub(crate) fn received(state: &RankState, hart: u8) -> Option<(Receiving, Reques
 }
 
 /// Whether a reply is a message of a member, which the buffer takes whole.
+#[inline(always)]
 pub(crate) fn fits(site: &Site, receiving: &Receiving, reply: &Reply) -> bool
     ensures { IsTrue result → Fits site.now receiving.now reply.now }
 {

@@ -24,6 +24,7 @@ use rv_hart::{Hart, Mode};
 use rv_memory::RankMemory;
 
 /// Whether a running hart is at an ECALL that is a SEND.
+#[inline(always)]
 fn is_at_send(hart: &Hart, memory: &RankMemory) -> bool
     ensures running { IsTrue result → hart.now.mode ≡ Running }
     ensures ecall { IsTrue result → is_ecall_of (word_at memory.now hart.now.pc) ≡ true }
@@ -36,6 +37,7 @@ fn is_at_send(hart: &Hart, memory: &RankMemory) -> bool
 }
 
 /// The arguments of a send.
+#[inline(always)]
 fn sending_of(hart: &Hart) -> Sending
     ensures { result ≡ sending_by (argument hart.now) }
 {
@@ -49,6 +51,7 @@ fn sending_of(hart: &Hart) -> Sending
 }
 
 /// Whether a send is right, goes to a member, and has so few bytes that they take no memory.
+#[inline(always)]
 fn is_short(site: &Site, memory: &RankMemory, sending: &Sending) -> bool
     ensures { IsTrue result → IsShortSend site.now memory.now sending.now }
 {
@@ -66,6 +69,7 @@ fn is_short(site: &Site, memory: &RankMemory, sending: &Sending) -> bool
 }
 
 /// So few bytes of the memory, in place.
+#[inline(always)]
 fn short(memory: &RankMemory, buffer: u64, count: usize) -> Bytes
     requires { count ≤ 16 }
     ensures { result ≡ bytes_at memory.now buffer count }
@@ -76,6 +80,7 @@ fn short(memory: &RankMemory, buffer: u64, count: usize) -> Bytes
 }
 
 /// What such a send asks the hub.
+#[inline(always)]
 fn request_of(site: &Site, memory: &RankMemory, sending: &Sending) -> Request
     requires { IsShortSend site.now memory.now sending.now }
     ensures { result ≡ request.Send false sending.now.comm (member site.now sending.now.comm sending.now.dest)
@@ -91,6 +96,7 @@ fn request_of(site: &Site, memory: &RankMemory, sending: &Sending) -> Request
 }
 
 /// What a hart asks whose turn is a SEND of few bytes. Any other turn is left to the table of calls.
+#[inline(always)]
 pub(crate) fn sent(state: &RankState, hart: u8) -> Option<Request>
     requires { hart < vec_len state.now.harts }
     ensures { IfSome result (λ request. Sends state.now hart request) }

@@ -370,6 +370,7 @@ impl Rank {
     }
 
     /// Makes the call of a SEND that was worked out, and tells the rank its reply. As a rule that is the message's post.
+    #[inline(always)]
     fn send<R, D: Desk<R>>(
         &mut self,
         hart: u8,
@@ -394,6 +395,7 @@ impl Rank {
     }
 
     /// Tells the rank that the message of a SEND has its post.
+    #[inline(always)]
     fn tell_posted(&mut self, hart: u8, request: Request, post: u64, done: bool, stamp: Stamp)
         requires may { MaySend self.old hart request }
         requires stamp { (self.old.state.clock < stamp) × (stamp < 2 ^ 62) }
@@ -406,6 +408,7 @@ impl Rank {
 
     /// Makes the call of a RECV that was worked out, and tells the rank its reply. As a rule that is a message that fits,
     /// or a post.
+    #[inline(always)]
     fn receive<R, D: Desk<R>>(
         &mut self,
         hart: u8,
@@ -437,6 +440,7 @@ impl Rank {
     }
 
     /// Tells the rank that a RECV has its message.
+    #[inline(always)]
     fn tell_message(
         &mut self,
         hart: u8,

@@ -24,6 +24,7 @@ fn is_taken_by(rank: u8, post: Post) -> bool
 
 impl HubState {
     /// Whether a call of the rank would be answered NotYet if it were made now. Changes nothing, and takes no memory.
+    #[inline(always)]
     pub fn asks_in_vain(&self, rank: u8, request: &Request) -> bool
         ensures { result ≡ asks_in_vain self.now rank request.now }
     {
