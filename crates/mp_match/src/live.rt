@@ -59,6 +59,7 @@ fn tell(owners: &mut [Owner], place: Option<u64>)
 }
 
 /// One post more, of this line, for which there is room: its partner, if any, has one from now on.
+#[inline(always)]
 pub fn add_owner(owners: &mut Vec<Owner>, line: Line)
     requires room { vec_len owners.old < vec_capacity owners.old }
     ensures { owners.new.items ≡ owners_with owners.old.items line }

@@ -79,6 +79,7 @@ impl Model for Queues {
 }
 
 // A message that is held, of its envelope and its bytes.
+#[inline(always)]
 fn message_of(envelope: Option<Envelope>, body: Option<Bytes>) -> Option<Message>
     ensures { result ≡ message_in envelope (Some body) }
 {
@@ -99,6 +100,7 @@ fn envelope_of(post: Post) -> Option<Envelope>
 }
 
 // Whether a send with that partner is complete.
+#[inline(always)]
 fn is_done(sent: Sent, partner: Option<u64>) -> bool
     ensures { result ≡ (not sent.sync || is_some partner) }
 {
@@ -196,6 +198,7 @@ impl Queues {
     }
 
     // One post more, with its partner where there is one.
+    #[inline(always)]
     fn add(&mut self, new: Post, body: Option<Bytes>) -> Result<Option<u64>, AllocError>
         requires { length self.old.lines < 2 ^ 64 - 1 }
         ensures ok { IfOk result (λ partner.
@@ -263,6 +266,7 @@ impl Queues {
     /// Posts a send, and tells whether it is complete: a standard send is, and a synchronous one that is paired.
     ///
     /// Full where 65,536 messages are held, Memory where a list can't grow. Both leave all as it was.
+    #[inline(always)]
     pub fn post_send(&mut self, sent: Sent, bytes: Bytes) -> Result<bool, PostFault>
         requires { length self.old.lines < 2 ^ 64 - 1 }
         ensures done { IfOk result (λ done.
@@ -366,6 +370,7 @@ impl Queues {
 
     /// Posts a receive and takes out its message at once, where there is one, and gives it twice as `collect_twice`
     /// does. After a refusal for memory all is as it was, and nothing was posted.
+    #[inline(always)]
     pub fn receive_twice(
         &mut self,
         alloc: Global,
@@ -390,6 +395,7 @@ impl Queues {
 
     // Posts a receive that finds the send at the place, and takes its message out. Both are over at once: so the receive is
     // entered nowhere, and all that was kept of the send is let go.
+    #[inline(always)]
     fn receive_at(
         &mut self,
         alloc: Global,
@@ -449,6 +455,7 @@ impl Queues {
         }
     }
 
+    #[inline(always)]
     fn copy_at(&self, alloc: Global, place: u64) -> Result<Option<Message>, AllocError>
         ensures copy { IfOk result (λ copy. copy ≡ message_at self.now place) }
         ensures free { carried_by_message (message_at self.now place) ≡ 0 → IsOk result }

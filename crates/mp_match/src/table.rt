@@ -24,6 +24,7 @@ fn is_partner(partner: Option<u64>, place: u64) -> bool
     }
 }
 
+#[inline(always)]
 fn message_copy(alloc: Global, live: &Live) -> Result<Option<Message>, AllocError>
     ensures copy { IfOk result (λ copy. copy ≡ message_of (Some live.now)) }
     ensures free { carried_by_message (message_of (Some live.now)) ≡ 0 → IsOk result }
@@ -66,6 +67,7 @@ impl Table {
     }
 
     /// The post at the place.
+    #[inline(always)]
     pub fn at(&self, place: u64) -> Option<&Live>
         ensures { option_copied result ≡ kept self.now.map place }
     {
@@ -187,6 +189,7 @@ impl Table {
     }
 
     /// A copy of the message at the place. Refused for memory alone, and never where there is none or one of no bytes.
+    #[inline(always)]
     pub fn message_copy(&self, alloc: Global, place: u64) -> Result<Option<Message>, AllocError>
         ensures copy { IfOk result (λ copy. copy ≡ message_of (kept self.now.map place)) }
         ensures free { carried_by_message (message_of (kept self.now.map place)) ≡ 0 → IsOk result }

@@ -57,6 +57,7 @@ impl Eq for Bytes {
 }
 
 // Puts other bytes at the beginning.
+#[inline(always)]
 fn put(bytes: &mut [u8], new: &[u8])
     requires { length new.now ≤ length bytes.old }
     ensures { bytes.new ≡ new.now ++ drop (length new.now) bytes.old }
@@ -66,6 +67,7 @@ fn put(bytes: &mut [u8], new: &[u8])
 
 impl Bytes {
     /// At most 16 bytes, in place.
+    #[inline(always)]
     pub fn short(items: &[u8]) -> Bytes
         requires { length items.now ≤ 16 }
         ensures { result ≡ items.now }
@@ -129,6 +131,7 @@ impl Bytes {
 
     /// The same bytes once more. More than 16 are shared, so that no memory is taken: the only error is that 2^63 - 1
     /// share them already.
+    #[inline(always)]
     pub fn try_copy(&self, _alloc: Global) -> Result<Bytes, AllocError>
         ensures copy { IfOk result (λ copy. copy ≡ self.now) }
         ensures free { length self.now ≤ 16 → IsOk result }

@@ -32,6 +32,7 @@ pub struct Message {
 
 impl Message {
     /// The same message once more: the two share its bytes, which takes no memory. One of no bytes is never refused.
+    #[inline(always)]
     pub fn try_copy(&self, alloc: Global) -> Result<Message, AllocError>
         ensures copy { IfOk result (λ copy. copy ≡ self.now) }
         ensures free { self.now.bytes ≡ [] → IsOk result }

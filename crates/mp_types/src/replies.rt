@@ -42,6 +42,7 @@ impl Reply {
 
     /// The same reply once more: the two share the bytes of messages. The list of what several posts gave is copied. A
     /// copy of one that carries no elements takes no memory.
+    #[inline(always)]
     pub fn try_copy(&self, alloc: Global) -> Result<Reply, AllocError>
         ensures copy { IfOk result (λ copy. copy ≡ self.now) }
         ensures free { carried_by_reply self.now ≡ 0 → IsOk result }

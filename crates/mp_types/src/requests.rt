@@ -79,6 +79,7 @@ impl Request {
 
     /// The same request once more: the two share what it carries, which takes no memory. One that carries no elements is
     /// never refused.
+    #[inline(always)]
     pub fn try_copy(&self, alloc: Global) -> Result<Request, AllocError>
         ensures copy { IfOk result (λ copy. copy ≡ self.now) }
         ensures free { carried_by_request self.now ≡ 0 → IsOk result }
