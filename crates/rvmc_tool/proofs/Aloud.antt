@@ -1,5 +1,5 @@
 -- Lines of progress, and a hint behind them.
-use Rattle.std.proofs.Common.{◌≡◌, ◌∙◌, ℕ, Bool, false, true, List, [], ◌++◌, Option, Some, None, ap, append-nil, sym}
+use Rattle.std.proofs.Common.{◌∙◌, ℕ, Bool, false, true, List, [], ◌++◌, Option, Some, None, ap}
 use Rattle.std.specs.Io.KnownBytes.{Appends, Keeps}
 use Rattle.std.proofs.KnownBytes.{Appends-trans}
 use Rattle.cl_lines.specs.Progress.{AreProgress}

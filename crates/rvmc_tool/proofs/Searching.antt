@@ -1,6 +1,7 @@
 -- What is told of a search by right plans.
-use Rattle.std.proofs.Common.{◌≡◌, ℕ, Bool, List, Option, None, Some, inl}
-use Rattle.std.proofs.KnownBytes.{Keeps-refl}
+use Rattle.std.proofs.Common.{◌≡◌, ℕ, Bool, List, Option, None, Some, inl, inr}
+use Rattle.std.specs.Io.KnownBytes.{Keeps}
+use Rattle.std.proofs.KnownBytes.{Appends-kept, Keeps-refl, Keeps-trans}
 use Rattle.cl_record.specs.Plans.{HasPlans}
 use Rattle.rv_image_types.specs.declared.images.ImageParts.{ImageParts}
 use Rattle.rvmc_explore.specs.Telling.{IsBegun, Tells}
@@ -17,6 +18,13 @@ use Rattle.rvmc_tool.specs.Unexplored.{IsNoEnd}
 -- a fault that is no search's leaves the output as it was
 pub left_alone : (IsCut : List ℕ → Type 0) (fault : Fault) (known : Option (List ℕ)) → LeavesCut IsCut fault known known
 left_alone IsCut fault known = inl (Keeps-refl known)
+
+-- what a fault left stays there while the writer keeps what it holds
+pub left_stays : (IsCut : List ℕ → Type 0) (fault : Fault) (before old new : Option (List ℕ)) → Keeps old new
+    → LeavesCut IsCut fault before old → LeavesCut IsCut fault before new
+left_stays IsCut fault before old new keeps (inl stays) = inl (Keeps-trans before old new stays keeps)
+left_stays IsCut fault before old new keeps (inr (memory, text, cut, there)) =
+    inr (memory, text, cut, Appends-kept before old new text there keeps)
 
 -- of an image, whose harts take turns in this order, by right plans
 module _ (image : ImageParts) (harts : Option (List ℕ)) (states turns : ℕ) (by : ByPlans image turns harts (HasPlans image)) where

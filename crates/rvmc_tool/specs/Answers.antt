@@ -9,7 +9,6 @@ use Rattle.rvmc_line.specs.declared.line.CommandLine.{CommandLine}
 use Rattle.rvmc_line.specs.declared.line.CommandLine.TheVariants.{Join, OfImage, OfRecord, Session, WordSession}
 use Rattle.rvmc_line.specs.declared.line.ImageCommand.{ImageCommand}
 use Rattle.rvmc_line.specs.declared.line.ImageCommand.TheVariants.{Asm, Dis, Explore, ExploreFrom, One, OneUntilStuck, Run, RunUntilStuck, Split}
-use Rattle.rvmc_line.specs.declared.line.Written.TheVariants as written
 use Rattle.rvmc_answers.specs.Below.{listing}
 use Rattle.rvmc_answers.specs.Ends.{IsDone, IsFaulty}
 use Rattle.rvmc_tool.specs.Exploring.{IsToldOfSearch}

@@ -11,7 +11,7 @@ ghost use Rattle.rvmc_tool.specs.Made.{is_written_as_made, tells_search};
 ghost use Rattle.rvmc_answers.specs.Outputs.{output_bytes};
 ghost use Rattle.rvmc_tool.specs.Progress.{asks_progress, wants_progress};
 
-use crate::exploring::{Search, explore_record};
+use crate::exploring::{Search, explore_numbered};
 use crate::starting::{explore_from, join, split};
 use rv_image::write_image;
 use rv_image_types::Image;
@@ -83,7 +83,7 @@ fn made<R: MaybeThreads, E: Write>(
             plan,
             states,
             turns,
-            record: Some(number),
+            record,
             progress,
         } => {
             let wanted = Search {
@@ -92,7 +92,7 @@ fn made<R: MaybeThreads, E: Write>(
                 turns: *turns,
                 progress: *progress,
             };
-            explore_record(alloc, image, &wanted, *number, err)
+            explore_numbered(alloc, image, &wanted, *record, err)
         }
         ImageCommand::Split {
             plan,

@@ -1,6 +1,6 @@
 //! `explore`: the ends of all orders of ranks' turns, ranks that are stuck while others run on, and the record of one.
 
-ghost use Rattle.std.specs.Prelude.{◌≡◌, ◌<◌, IfErr, IfOk, List, None, OnOk, Some, length, true, ℕ};
+ghost use Rattle.std.specs.Prelude.{◌≡◌, ◌≢◌, ◌<◌, IfErr, IfOk, List, None, OnOk, Some, length, true, ℕ};
 ghost use Rattle.std.specs.Io.KnownBytes.{Appends};
 ghost use Rattle.cl_lines.specs.Telling.{TellsProgress};
 ghost use Rattle.cl_record.specs.Plans.{HasPlans};
@@ -85,7 +85,7 @@ fn record_of_end<E: Write>(
 
 /// `explore --record`: the record of the end of this number of all ends of all orders of the ranks' turns.
 #[tactic(auto, using(cl_lines::proofs::Behind::nothing_told, crate::proofs::Searching::recorded_by, crate::proofs::Searching::refused_by))]
-pub(crate) fn explore_record<E: Write>(
+fn explore_record<E: Write>(
     alloc: Global,
     image: &Image,
     wanted: &Search<'_>,
@@ -112,6 +112,31 @@ pub(crate) fn explore_record<E: Write>(
         progress: wanted.progress,
     };
     record_of_end(alloc, image, &asked, number, err)
+}
+
+/// The same of the number that is asked for, if one is.
+pub(crate) fn explore_numbered<E: Write>(
+    alloc: Global,
+    image: &Image,
+    wanted: &Search<'_>,
+    number: Option<u64>,
+    err: &mut E,
+) -> Result<Answer, Fault>
+    requires { number ≢ None }
+    ensures says { IfOk result (λ answer.
+        IsExplored image.now wanted.now.harts.now wanted.now.states wanted.now.turns number (output_bytes answer.output)
+        (end_status answer.end)) }
+    ensures whole { IfOk result (λ answer. IsWhole answer.end) }
+    ensures fault { IfErr result (IsMakingFault
+        (ByPlans image.now wanted.now.turns wanted.now.harts.now (λ plans. ¬ (HasPlans image.now plans))) ⊥
+        (λ refusal. ByPlans image.now wanted.now.turns wanted.now.harts.now (λ plans. HasPlans image.now plans
+        × IsNoEnd image.now (listed wanted.now.harts.now image.now.harts) wanted.now.states wanted.now.turns number refusal))) }
+    ensures progress { TellsProgress wanted.now.progress (E.contents err.old) (E.contents err.new) }
+{
+    match number {
+        Some(number) => explore_record(alloc, image, wanted, number, err),
+        None => unreachable!(),
+    }
 }
 
 /// What a search of all orders of an image's turns tells, written on `out` as it is found.

@@ -1,4 +1,6 @@
-use Rattle.std.proofs.Common.{IfErr, IfOk, subst, sym}
+use Rattle.std.proofs.Common.{IfErr, IfOk, None, false, subst, sym, ◌≡◌}
+use Rattle.rvmc_tool.specs.Made.{tells_search}
+use Rattle.rvmc_line.specs.declared.line.ImageCommand.TheVariants.{Explore}
 use Rattle.rvmc_answers.specs.Ends.{end_status}
 use Rattle.rvmc_answers.specs.Outputs.{output_bytes}
 use Rattle.rvmc_tool.specs.Answers.{Makes}
@@ -23,3 +25,20 @@ pub returns-in-ExploreFrom-clause-says : goal.returns-in-ExploreFrom-clause-says
 returns-in-ExploreFrom-clause-says g c =
     subst (λ command. IfOk c.explore_from.result (λ answer. Makes command c.args.image.now (output_bytes answer.output)
     (end_status answer.end))) (sym c.in-ExploreFrom.is) c.explore_from.ensures.says
+
+pub explore_numbered-requires : goal.explore_numbered-requires
+explore_numbered-requires g c = λ none.
+    let it = c.in-Explore in
+    let no : tells_search (Explore it.plan it.states it.turns None it.progress) ≡ false =
+    subst (λ number. tells_search (Explore it.plan it.states it.turns number it.progress) ≡ false) none
+    (subst (λ command. tells_search command ≡ false) it.is c.requires.whole) in absurd (cc)
+
+pub returns-in-Explore-clause-says : goal.returns-in-Explore-clause-says
+returns-in-Explore-clause-says g c =
+    subst (λ command. IfOk c.explore_numbered.result (λ answer. Makes command c.args.image.now (output_bytes answer.output)
+    (end_status answer.end))) (sym c.in-Explore.is) c.explore_numbered.ensures.says
+
+pub returns-in-Explore-clause-fault : goal.returns-in-Explore-clause-fault
+returns-in-Explore-clause-fault g c =
+    subst (λ command. IfErr c.explore_numbered.result (RefusesImage command c.args.image.now)) (sym c.in-Explore.is)
+    c.explore_numbered.ensures.fault
