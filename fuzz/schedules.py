@@ -557,7 +557,7 @@ def difference_from_told(some, told):
     """How such a search differs from what `explore` told of all states, or None."""
     return first_difference(
         ("texts", some.texts, told.ends()),
-        ("ranks that are stuck", some.companies, orders.largest(told.companies, some.companies)),
+        ("ranks that are stuck", orders.largest(some.companies, told.companies), orders.largest(told.companies, some.companies)),
         ("runs without an end", some.is_unending, told.is_unending),
     )
 

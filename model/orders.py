@@ -633,9 +633,21 @@ def whole_text(cluster, plan):
 
 
 def largest(companies, told):
-    """These texts of ranks that are stuck, without those of which all ranks are stuck with others in what was told: where a
-    rank's turn goes first, no state is kept at which it isn't stuck yet and others are."""
-    return {text for text in companies if text in told or not any(ranks_of(text) < ranks_of(other) for other in told)}
+    """These texts of ranks that are stuck, without those that are earlier ones of a text that was told: where a rank's turn goes
+    first, no state is kept at which it isn't stuck yet and others are, or at which its message hasn't come yet."""
+    return {text for text in companies if text in told or not any(is_earlier(text, other) for other in told)}
+
+
+def is_earlier(text, other):
+    """Whether these ranks are stuck with more ranks later, or wait for less."""
+    ranks, those = ranks_of(text), ranks_of(other)
+    return ranks < those or (ranks == those and awaited(text) > awaited(other))
+
+
+def awaited(text):
+    """What the ranks of such a text wait for, one by one."""
+    lines = re.findall(rb"^(rank \d hart \d waits) .* for (.*)$", text, re.MULTILINE)
+    return {(who, one) for who, what in lines for one in what.split(b"; ")}
 
 
 def ranks_of(text):
