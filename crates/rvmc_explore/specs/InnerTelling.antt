@@ -1,4 +1,4 @@
--- What was told while a search goes on.
+-- What was written while a search went on.
 use Rattle.std.specs.Prelude.{ℕ, ◌≡◌, List, [], Bool, true, Option}
 use Rattle.std.specs.Io.KnownBytes.{Appends}
 use Rattle.rvmc_explore.specs.Telling.{AddsOutcomes}

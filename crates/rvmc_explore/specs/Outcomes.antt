@@ -1,4 +1,4 @@
--- What is told of a search: its ends, and ranks that are stuck while others run on.
+-- The outcomes that `explore` lists: ends, and ranks that are stuck while others run on.
 use Rattle.std.specs.Prelude.{ℕ, ◌≡◌, ◌⊎◌, List, [], length, slice_get, Some}
 use Rattle.std.specs.List.{count_by}
 use Rattle.std.specs.Str.{bytes_eq}

@@ -1,4 +1,4 @@
-//! What is told of a search: its ends, and ranks that are stuck while others run on.
+//! The outcomes that `explore` lists: ends, and ranks that are stuck while others run on.
 
 ghost use Rattle.std.specs.Prelude.{◌≡◌, ◌<◌, ◌↔◌, IfNone, IfOk, IfSome, OnOk, length, true};
 ghost use Rattle.cl_explore.specs.Ends.{findings};

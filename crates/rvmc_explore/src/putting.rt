@@ -1,4 +1,4 @@
-//! What a search tells, written as it is found.
+//! The outcomes of a search, each written when it is found.
 
 ghost use Rattle.std.specs.Prelude.{◌≡◌, ◌<◌, ◌++◌, [], IfErr, IfOk, List, length, true, ℕ};
 ghost use Rattle.std.specs.Io.KnownBytes.{Appends};
@@ -24,7 +24,7 @@ use std::alloc::{AllocError, Global};
 use std::io::Write;
 use std::marker::Brand;
 
-/// What became of a search that was told as it was found.
+/// What became of a search whose outcomes were written when they were found.
 #[derive(Clone, Copy, Drop)]
 pub struct Searched {
     /// Whether the writer took all of it.
@@ -96,14 +96,14 @@ fn rest_of(
     Ok(Told { text, status })
 }
 
-/// What a search tells, written on `out` as it is found: of each end its ranks, and what each waits for that waits there; then of
-/// ranks that are stuck while others run on what they wait for; of each the first message by which it differs from the first
-/// one; behind them, of each that two or more ends have, how many do; whether some runs go on for ever, to no end; in the last
-/// line whether these are all. No two have the same text. The status is 4 where they aren't all, else 3 where a hart trapped
-/// at an end, else 7 where a hart that takes turns waits at one, or some ranks are stuck, else 8 where some runs go on for
-/// ever, else 0. Where that is wanted, lines on `err` say how far the search came.
+/// Writes each outcome of a search on `out` when it is found: for an end its ranks, and what each waits for that waits there;
+/// for ranks that are stuck while others run on, which come last, what they wait for; and the first message by which it differs
+/// from outcome 1. Behind them stands how many ends look like an outcome, if two or more do, whether some runs go on for ever,
+/// and in the last line whether the list is complete. No two outcomes have the same text. The status is 4 if the list isn't
+/// complete, else 3 if a hart trapped at an end, else 7 if a hart that takes turns waits at one, or some ranks are stuck, else 8
+/// if some runs go on for ever, else 0. If asked for, lines on `err` say how far the search came.
 ///
-/// Refusals: Clock, Memory. What was found before stays. Where the writer didn't take all, that is answered.
+/// Refusals: Clock, Memory. Outcomes that were written before stay. If the writer doesn't take all, the result says so.
 #[tactic(auto, using(crate::proofs::Heard::cut_by, crate::proofs::Heard::whole_by))]
 pub fn put_explored<O: Write, E: Write>(
     alloc: Global,
