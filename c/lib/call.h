@@ -51,6 +51,11 @@ enum {
 
 #define RVMC_PIECE 4096                           /* the most bytes of a message of the machine */
 
+/* What a SEND of the library's own has in a5, which the machine doesn't read: the bytes of "buffered". MPI lets MPI_Send wait
+   for its receive, but not what the library sends beside it: collectives, pieces of a large message, MPI_Sendrecv, messages
+   of a rank to itself. So where `rvmc explore` asks which ranks need buffers, it passes over a SEND that says so. */
+#define RVMC_IS_BUFFERED 0x6465726566667562L
+
 /* How often the clock was read since the last call (clock.c). */
 extern unsigned long rvmc_looks;
 

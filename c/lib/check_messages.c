@@ -339,7 +339,7 @@ static int have_heads(const struct packet *p, int dest, const struct rvmc_record
 
 static long send_half(const struct packet *p, int dest, int tag, MPI_Comm c)
 {
-    return rvmc_send(RVMC_SEND, p->room, p->room ? p->count : 0, dest, tag, c).code;
+    return rvmc_own_send(p->room, p->room ? p->count : 0, dest, tag, c);
 }
 
 static long receive_half(struct rvmc_record *r, MPI_Status *status)

@@ -110,7 +110,7 @@ void rvmc_end_context(void)
     busy = wake;
     rvmc_unlock();
     if (wake)
-        rvmc_call(RVMC_SEND, 0, 0, rvmc_rank, RVMC_TAG_CONTEXT, RVMC_TWIN, 0);
+        rvmc_call(RVMC_SEND, 0, 0, rvmc_rank, RVMC_TAG_CONTEXT, RVMC_TWIN, RVMC_IS_BUFFERED);
 }
 
 long rvmc_context_of(MPI_Comm c)

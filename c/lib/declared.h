@@ -260,7 +260,8 @@ RVMC_INLINE int MPI_Isendrecv(const void *out, int out_count, MPI_Datatype out_t
     long code;
 
     if (rvmc_is_derived(out_type) || rvmc_is_derived(in_type)) {
-        int error = rvmc_derived.send("MPI_Isendrecv", RVMC_SEND, RVMC_OUT, out, out_count, out_type, dest, out_tag, c, 0);
+        int error = rvmc_derived.send("MPI_Isendrecv", RVMC_OWN_SEND, RVMC_OUT, out, out_count, out_type, dest, out_tag, c,
+                                       0);
 
         return error ? error : rvmc_derived.receive("MPI_Isendrecv", RVMC_IRECV, RVMC_IN, in, in_count, in_type, source,
                                                     in_tag, c, 0, request);
@@ -277,7 +278,7 @@ RVMC_INLINE int MPI_Isendrecv_replace(void *buffer, int count, MPI_Datatype type
     long code;
 
     if (rvmc_is_derived(type)) {
-        int error = rvmc_derived.send("MPI_Isendrecv_replace", RVMC_SEND, 0, buffer, count, type, dest, out_tag, c, 0);
+        int error = rvmc_derived.send("MPI_Isendrecv_replace", RVMC_OWN_SEND, 0, buffer, count, type, dest, out_tag, c, 0);
 
         return error ? error : rvmc_derived.receive("MPI_Isendrecv_replace", RVMC_IRECV, 0, buffer, count, type, source,
                                                     in_tag, c, 0, request);

@@ -124,12 +124,12 @@ RVMC_INLINE void give_bytes(struct group *g, const void *buffer, long size, long
         g->given |= 1u << to;
         if (!g->code)
             g->code = rvmc_call(RVMC_SEND, (long)message, RVMC_HEAD + headed(size), rvmc_rank_at(g->of, to), g->tag, RVMC_TWIN,
-                                0).code;
+                                RVMC_IS_BUFFERED).code;
         at = RVMC_HEADED;
     }
     for (; at < size && !g->code; at += RVMC_PIECE) {
         long code = rvmc_call(RVMC_SEND, (long)buffer + at, rvmc_first(size - at), rvmc_rank_at(g->of, to), g->tag, RVMC_TWIN,
-                              0).code;
+                              RVMC_IS_BUFFERED).code;
 
         if (code)
             fault(g, code, "sendbuf", (long)buffer, size);

@@ -57,7 +57,7 @@ static long split(char *first, const char *buffer, long size, long dest)
         return RVMC_OK;
     for (long at = KEPT; at < size; at += RVMC_PIECE) {
         long code = rvmc_call(RVMC_SEND, (long)buffer + at, least(size - at, RVMC_PIECE), dest,
-                              RVMC_TAG_REST + header.number, RVMC_TWIN, 0).code;
+                              RVMC_TAG_REST + header.number, RVMC_TWIN, RVMC_IS_BUFFERED).code;
 
         if (code)
             return code;
@@ -205,7 +205,7 @@ rvmc_answer rvmc_claim_posted(void *buffer, long size, MPI_Message message)
 
     if (a.code)
         return a;
-    rvmc_call(RVMC_SEND, (long)claim->first, RVMC_PIECE, rvmc_rank, tag, twin, 0);
+    rvmc_call(RVMC_SEND, (long)claim->first, RVMC_PIECE, rvmc_rank, tag, twin, RVMC_IS_BUFFERED);
     if (size < RVMC_PIECE)
         join(buffer, 0, claim->source, header_of(claim->first));
     rvmc_kinds[a.value & 255] = RVMC_LARGE;

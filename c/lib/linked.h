@@ -12,7 +12,7 @@ extern struct rvmc_own {
     void (*freed)(MPI_Request request);
 } rvmc_own;
 enum {
-    RVMC_BSEND = 64, RVMC_RSEND, RVMC_IBSEND, RVMC_IRSEND, RVMC_SSEND_INIT, RVMC_BSEND_INIT, RVMC_RSEND_INIT
+    RVMC_BSEND = 64, RVMC_RSEND, RVMC_IBSEND, RVMC_IRSEND, RVMC_OWN_SEND, RVMC_SSEND_INIT, RVMC_BSEND_INIT, RVMC_RSEND_INIT
 };
 struct rvmc_layout;
 extern struct rvmc_derived {

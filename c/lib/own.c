@@ -29,7 +29,7 @@ static long send(struct sender *s, const void *buffer)
     case RVMC_READY:
         return rvmc_ready(buffer, s->size, s->dest, s->tag, s->communicator);
     default:
-        return rvmc_send(RVMC_SEND, buffer, s->size, s->dest, s->tag, s->communicator).code;
+        return rvmc_own_send(buffer, s->size, s->dest, s->tag, s->communicator);
     }
 }
 

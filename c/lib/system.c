@@ -80,7 +80,7 @@ void _exit(int code)
         if (RVMC_NUMBER(rvmc_harts) > 1)
             rvmc_threads_end();
         for (long hart = 1; hart < RVMC_NUMBER(rvmc_harts); hart++)
-            rvmc_call(RVMC_SEND, 0, 0, rvmc_rank, RVMC_TAG_WORK + hart, RVMC_TWIN, 0);
+            rvmc_call(RVMC_SEND, 0, 0, rvmc_rank, RVMC_TAG_WORK + hart, RVMC_TWIN, RVMC_IS_BUFFERED);
     }
     for (;;)
         rvmc_call(RVMC_EXIT, code, 0, 0, 0, 0, 0);

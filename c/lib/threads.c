@@ -17,7 +17,7 @@ static struct {
 
 static long pass(long tag, const void *buffer, long size)
 {
-    return rvmc_call(RVMC_SEND, (long)buffer, size, rvmc_rank, tag, RVMC_TWIN, 0).code;
+    return rvmc_call(RVMC_SEND, (long)buffer, size, rvmc_rank, tag, RVMC_TWIN, RVMC_IS_BUFFERED).code;
 }
 
 RVMC_INLINE long await(long tag, void *buffer, long size)

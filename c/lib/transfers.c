@@ -73,6 +73,7 @@ static long sent(int how, const char *buffer, long size, int dest, int tag, MPI_
     case RVMC_IRSEND: return rvmc_complete(rvmc_ready(buffer, size, dest, tag, c), request);
     case RVMC_ISEND:
     case RVMC_ISSEND: return rvmc_made(rvmc_send(how, buffer, size, dest, tag, c), request, RVMC_SENDER);
+    case RVMC_OWN_SEND: return rvmc_own_send(buffer, size, dest, tag, c);
     default: return rvmc_send(how, buffer, size, dest, tag, c).code;
     }
 }
