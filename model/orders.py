@@ -27,7 +27,7 @@ LONGEST = 3_000
 
 CLOSING = re.compile(
     rb"(\d+) outcomes? of (\d+) states?: "
-    rb"(no other outcome|not all: \d+ states are left|not all: rank \d takes more than \d+ turns alone)\n"
+    rb"(no other outcome(?: with buffered sends)?|not all: \d+ states are left|not all: rank \d takes more than \d+ turns alone)\n"
 )
 
 UNENDING = b"some runs go on for ever\n"
@@ -191,7 +191,8 @@ class Search:
     def settled(self, rank):
         """A rank behind the turns that it takes by itself."""
         taken = 0
-        while not self.each and not self.is_done(rank):
+        hub = rank.cluster.hub
+        while not self.each and not self.is_done(rank) and not self.stays(rank, hub):
             if self.meets(rank, self.next_hart(rank)):
                 after = copy_of_rank(rank, Around(self.image, Nobody(), Nobody()))
                 try:
@@ -220,6 +221,17 @@ class Search:
         keys = [*map(self.key, ranks), self.number(key_of_hub(loaded.hub)), self.number(key_of_boxes(loaded.boxes))]
         return State(ranks, loaded.hub, loaded.boxes, tuple(keys))
 
+    def stays(self, rank, hub):
+        """Whether a rank takes no turn by itself where it is."""
+        return False
+
+    def see(self, state):
+        """Is shown each state that was found."""
+
+    def is_met(self, rank, hart):
+        """Whether what a hart's next turn leads to may hang on others."""
+        return self.meets(rank, hart)
+
     @staticmethod
     def meets(rank, hart):
         """Whether a hart may meet others in its next turn."""
@@ -240,7 +252,7 @@ class Search:
         """The state behind a rank's next turn, and the turn's kind. What a turn does hangs on what is met alone, so each is
         taken once."""
         hart = self.next_hart(state.ranks[number])
-        known = state.key[number], must_miss, state.key[-2:] if self.meets(state.ranks[number], hart) else None
+        known = state.key[number], must_miss, state.key[-2:] if self.is_met(state.ranks[number], hart) else None
         if known not in self.turns:
             rank, around, step = self.turn(state, number, hart, must_miss)
             rank, hub, boxes = self.settled(rank), around.hub, around.boxes
@@ -291,6 +303,7 @@ class Search:
         while todo:
             state = todo.pop()
             states[state.key] = state
+            self.see(state)
             if self.is_end(state):
                 ends[what_is_known(state.ranks)] = text_of(state.ranks, self.plan)
                 self.shared[whole_text(self.around(state), self.plan)] += 1
@@ -416,6 +429,25 @@ class Ahead(Search):
         return map(self.ahead, super().moves(state))
 
 
+class Resting(Search):
+    """The states in which a rank takes no turn by itself where it rests, behind a standard send that nobody received. Ranks have
+    one hart each. MPI lets such a send wait."""
+
+    def __init__(self, image, plan, most):
+        super().__init__(image, plan, False, most)
+        # what is told of ranks that need buffers in one of these states
+        self.needs = set()
+
+    def stays(self, rank, hub):
+        return why.receiver_of(hub, rank, [list(range(self.image.ranks)), *self.image.comms]) is not None
+
+    def is_met(self, rank, hart):
+        return True
+
+    def see(self, state):
+        self.needs |= {why.told_of_need(self.around(state))} - {b""}
+
+
 def led_to(stops, before):
     """The states that lead to one of these, by those from which each was come to."""
     found, todo = set(stops), list(stops)
@@ -501,10 +533,11 @@ class Recorded:
         """What is wrong with it as the outcome of this number, or None."""
         if self.bad is not None:
             return f"no turn by the plan at step {self.bad}"
-        company = told.bodies[number - 1] in told.companies
-        if not company and not self.is_end():
+        company, need = (told.bodies[number - 1] in some for some in (told.companies, told.needs))
+        if not company and not need and not self.is_end():
             return "no end"
         text = why.told_of_company(self.walk.cluster) if company else self.text()
+        text = why.told_of_need(self.walk.cluster) if need else text
         if told.bodies[number - 1] + told.whys[number - 1] != text:
             return f"an outcome at which is told {text}"
         head = f"outcome {number}{self.difference(first)}\n".encode()
@@ -535,10 +568,11 @@ def sources_of(reply):
 
 class Told:
     """What `explore` told, taken apart: the line of each outcome, what is told of its ranks and, at an end, of what each hart
-    waits for. Of ranks that are stuck while others run on that is one text, and `companies` has these."""
+    waits for. Of ranks that are stuck while others run on, or that need buffers, that is one text, and `companies` and `needs`
+    have these."""
 
     def __init__(self, text, image):
-        self.heads, self.bodies, self.whys, self.companies = [], [], [], set()
+        self.heads, self.bodies, self.whys, self.companies, self.needs = [], [], [], set(), set()
         at = 0
         while text[at:].startswith(b"outcome "):
             stop = text.index(b"\n", at) + 1
@@ -553,23 +587,26 @@ class Told:
         self.is_unending = text[at:].startswith(UNENDING)
         at += len(UNENDING) if self.is_unending else 0
         closing = CLOSING.fullmatch(text[at:])
-        self.is_whole = None
+        self.is_whole = self.is_buffered = None
         if closing and int(closing[1]) == len(self.heads):
-            self.count, self.is_whole = int(closing[2]), closing[3] == b"no other outcome"
+            self.count, self.is_whole = int(closing[2]), closing[3].startswith(b"no other outcome")
+            # whether ranks may need buffers of which nothing is told
+            self.is_buffered = closing[3] != b"no other outcome"
             spelled = b"%d outcome%s of %d state%s: %s\n"
             outcomes, states = (b"" if number == 1 else b"s" for number in (len(self.heads), self.count))
             if text[at:] != spelled % (len(self.heads), outcomes, self.count, states, closing[3]):
                 self.is_whole = None
 
     def take_company(self, text, start):
-        """Takes what is told of ranks that are stuck. Returns where it ends."""
+        """Takes what is told of ranks that are stuck, or need buffers. Returns where it ends."""
         at = start
-        while not text[at:].startswith(b"deadlock: "):
+        while not text[at:].startswith((b"deadlock: ", b"needs buffering: ")):
             at = text.index(b"\n", at) + 1
+        told = self.companies if text[at:].startswith(b"deadlock: ") else self.needs
         at = text.index(b"\n", at) + 1
         self.bodies.append(text[start:at])
         self.whys.append(b"")
-        self.companies.add(text[start:at])
+        told.add(text[start:at])
         return at
 
     def take_end(self, text, start, image):
@@ -589,18 +626,18 @@ class Told:
 
     def looking_lines(self):
         """The lines of outcomes that two or more ends look like, as they have to be."""
-        ends = [number for number, body in enumerate(self.bodies, 1) if body not in self.companies]
+        ends = [number for number, body in enumerate(self.bodies, 1) if body not in self.companies | self.needs]
         rows = [(self.looking[number], number) for number in ends if self.looking.get(number, 1) > 1]
         return b"".join(b"%d ends look like outcome %d\n" % row for row in rows)
 
     def ends(self):
         """What is told of the ranks of each end."""
-        return set(self.bodies) - self.companies
+        return set(self.bodies) - self.companies - self.needs
 
     def shared(self):
         """How many ends have each text, with what each hart waits for."""
-        texts = enumerate(zip(self.bodies, self.whys), 1)
-        return {body + told: self.looking.get(number, 1) for number, (body, told) in texts if body not in self.companies}
+        texts, ends = enumerate(zip(self.bodies, self.whys), 1), self.ends()
+        return {body + told: self.looking.get(number, 1) for number, (body, told) in texts if body in ends}
 
     def wrong(self, found, is_whole, companies):
         """What is wrong with it by ends and companies that were found, which may be all: None where nothing is."""
@@ -621,7 +658,7 @@ class Told:
         lines = b"".join(self.ends())
         if re.search(rb"^rank \d hart \d trapped ", lines, re.MULTILINE):
             return 3
-        if self.companies or re.search(rb"^rank \d stop stuck$", lines, re.MULTILINE):
+        if self.companies or self.needs or re.search(rb"^rank \d stop stuck$", lines, re.MULTILINE):
             return 7
         return 8 if self.is_unending else 0
 

@@ -17,7 +17,8 @@ HEAD = re.compile(
 OUTCOME = re.compile(rb"((outcome \d+)?[^\n]*\n)(\d+) bytes\n")
 
 CLOSING = re.compile(
-    rb"(\d+ outcomes? of \d+ states?) of (\d+ starts?): (no other outcome|not all: start (\d+) isn't told whole)\n"
+    rb"(\d+ outcomes? of \d+ states?) of (\d+ starts?): "
+    rb"(no other outcome with buffered sends|not all: start (\d+) isn't told whole)\n"
 )
 
 
@@ -90,7 +91,7 @@ class Part:
         if self.left:
             last += b"not all from start %d of %d: %d states are left\n" % (self.number, self.count, self.left)
         else:
-            last += b"no other outcome from start %d of %d\n" % (self.number, self.count)
+            last += b"no other outcome with buffered sends from start %d of %d\n" % (self.number, self.count)
         self.is_right = text[at:] == last
 
     def search(self):
@@ -117,7 +118,8 @@ def joined(parts, count):
                 seen.append(body)
                 text += b"outcome %d: outcome %d of start %d\n%s" % (len(seen), number, part.number, body)
     lacking = set(range(1, count + 1)) - {part.number for part in used if not part.left}
-    verdict = b"not all: start %d isn't told whole" % min(lacking) if lacking else b"no other outcome"
+    # ranks may need buffers before a start, where no part looks
+    verdict = b"not all: start %d isn't told whole" % min(lacking) if lacking else b"no other outcome with buffered sends"
     text += orders.UNENDING if any(part.is_unending for part in used) else b""
     states = sum(part.states for part in used)
     told = (counted(len(seen), b"outcome"), counted(states, b"state"), counted(count, b"start"), verdict)
@@ -132,7 +134,7 @@ class Joined(orders.Told):
     def __init__(self, text, image):
         super().__init__(text, image)
         closing = CLOSING.fullmatch(text[text.rfind(b"\n", 0, len(text) - 1) + 1 :])
-        self.is_whole = closing and closing[3] == b"no other outcome"
+        self.is_whole = closing and closing[3] == b"no other outcome with buffered sends"
         self.lacking = closing and closing[4] and int(closing[4])
         self.outcomes = [body + why for body, why in zip(self.bodies, self.whys)]
 

@@ -1,4 +1,5 @@
-"""What each hart waits for, and which ranks are in a deadlock, as docs/DEBUGGING.md ("A run that doesn't end") has it."""
+"""What each hart waits for, and which ranks are in a deadlock, as docs/DEBUGGING.md ("A run that doesn't end") has it; and which
+ranks need buffers, as docs/EXPLORE.md has it."""
 
 import copy
 
@@ -7,9 +8,9 @@ import places
 from cluster import Walk
 from formats import HELD, HUB, MISS
 from hub import NOT_YET
-from machine import ENDED, TRAPPED, WAITING
+from machine import ECALL, ENDED, RUNNING, TRAPPED, WAITING
 
-CALLS = {17: "SSEND", 18: "RECV", 23: "WAIT", 25: "PROBE", 27: "MPROBE", 29: "MRECV", 35: "WAITALL"}
+CALLS = {16: "SEND", 17: "SSEND", 18: "RECV", 23: "WAIT", 25: "PROBE", 27: "MPROBE", 29: "MRECV", 35: "WAITALL"}
 
 # the causes of traps by their numbers, as docs/MACHINE.md ("Traps") lists them
 CAUSES = [
@@ -23,6 +24,9 @@ CAUSES = [
     "store outside memory or into the text",
 ]
 STORE_ACCESS = 7
+
+# what a SEND has in a5 whose message its sender buffers itself
+BUFFERED = int.from_bytes(b"buffered", "little")
 
 
 class Wait:
@@ -215,6 +219,46 @@ def told_of_company(cluster):
     ranks = stuck_ranks(cluster, waits)
     lines = [hart_line(cluster.image, cluster.ranks[rank], hart, found, False) for (rank, hart), found in waits.items() if rank in ranks]
     return ("".join(lines) + f"{named(ranks)} while others run on\n").encode() if ranks else b""
+
+
+def receiver_of(hub, rank, comms):
+    """The rank that is to receive what a rank sent where it rests, which is right behind a standard send whose message nobody
+    received. None where it doesn't rest."""
+    hart = rank.harts[0]
+    if hart.mode != RUNNING or hart.pc < 4 or bytes(rank.memory.bytes[hart.pc - 4 : hart.pc]) != ECALL.to_bytes(4, "little"):
+        return None
+    code, dest, tag, comm, buffered, call = (hart.regs[number] for number in (10, 12, 13, 14, 15, 17))
+    members = comms[comm] if comm < len(comms) else []
+    if call != 16 or code or buffered == BUFFERED or rank.number not in members or dest >= len(members):
+        return None
+    sends = [post for post in hub.posts if post.kind == "send" and post.partner is None and not post.sync]
+    sent = members[dest], (comm, rank.number, tag)
+    return members[dest] if any((post.dest, tuple(post.envelope[:3])) == sent for post in sends) else None
+
+
+def held_line(image, rank, to, waits):
+    """How a rank is held up: where it rests, or what it waits for."""
+    if to is None:
+        return hart_line(image, rank, 0, waits, False)
+    hart = copy.copy(rank.harts[0])
+    hart.pc -= 4
+    return f"rank {rank.number} hart 0 waits at {waiting_text(image, hart, rank.memory, [Wait(f'rank {to} to receive', [to])], False)}\n"
+
+
+def told_of_need(cluster):
+    """What is told of the most ranks that are held up together, if one of them rests: nothing where none does. Each rank has one
+    hart."""
+    receivers = {rank.number: receiver_of(cluster.hub, rank, cluster.comms) for rank in cluster.ranks}
+    if all(to is None for to in receivers.values()):
+        return b""
+    waits = waits_of(cluster)
+    among = set(receivers)
+    while free := {rank for rank in among if receivers[rank] not in among and not is_stuck(cluster.ranks[rank], waits, among)}:
+        among -= free
+    if all(receivers[rank] is None for rank in among):
+        return b""
+    lines = [held_line(cluster.image, cluster.ranks[rank], receivers[rank], waits[rank, 0]) for rank in sorted(among)]
+    return ("".join(lines) + f"needs buffering: ranks {' '.join(map(str, sorted(among)))}\n").encode()
 
 
 def told(cluster, framed=False):

@@ -68,7 +68,7 @@ use Rattle.cl_reduction_laws.proofs.Meeting.{holds_or_empty}
 use Rattle.cl_reduction_laws.proofs.Places.{number_of}
 use Rattle.cl_contest_laws.proofs.Ends.{many_too, stops_too}
 use Rattle.cl_contest_laws.proofs.Rest.{Alike, alike_back, claims_or_vain}
-use Rattle.cl_contest_laws.proofs.Homes.{AreHome, IsHome, at_link, home_sends, home_told, idle_or_hub, links_stay, one_link, stopped_or_waiting}
+use Rattle.cl_contest_laws.proofs.Homes.{AreHome, IsHome, at_link, home_sends, home_told, idle_or_hub, links_of, links_stay, one_link, stopped_or_waiting}
 
 -- ---- who could bring it, in hubs that are alike
 
@@ -248,12 +248,13 @@ module _ (search : Search) (image : ImageParts) (ranks : List ℕ) where
   hub_or_box h boxes r x _ waits = absurd waits
 
   -- another answer than NotYet, or none, to a rank that isn't among them
-  record Brings (r : ℕ) (c new : Cluster) (x : Rank) : Type 0 where
-    then : Rank
-    home : IsHome image r x → IsHome image r then
-    ranks_are : new.ranks ≡ slice_set c.ranks r then
-    held : (s : ℕ) (y : Rank) → is_among ranks s ≡ true → IsHome image r x → IsHome image s y
-        → IsHeld (hub_of c.journal) c.boxes s y → IsHeld (hub_of new.journal) new.boxes s y
+  pub record Brings (r : ℕ) (c new : Cluster) (x : Rank) : Type 0 where
+    pub then : Rank
+    pub home : IsHome image r x → IsHome image r then
+    pub ranks_are : new.ranks ≡ slice_set c.ranks r then
+    pub waits : (s : ℕ) (y : Rank) → is_among ranks s ≡ true → IsHome image r x → IsHome image s y
+        → WaitsAt (hub_of c.journal) c.boxes s y (asked y (hart s))
+        → WaitsAt (hub_of new.journal) new.boxes s y (asked y (hart s))
 
   -- who asks at a box that isn't among them doesn't ask at a box that one of them waits for, unless it is in vain
   module _ (r : ℕ) (c : Cluster) (x : Rank) (out : is_among ranks r ≡ false)
@@ -296,26 +297,25 @@ module _ (search : Search) (image : ImageParts) (ranks : List ℕ) where
     emptied_apart link part bytes box asks is holds s y (Ask.Ready l p bs) waits at same = waits
     emptied_apart link part bytes box asks is holds s y _ waits at same = at
 
-  brings : (r : ℕ) (c new : Cluster) (x : Rank) → is_among ranks r ≡ false → AreOnSides (hub_of c.journal).links search.patterns
+  pub brings : (r : ℕ) (c new : Cluster) (x : Rank) → is_among ranks r ≡ false
+      → AreOnSides (hub_of c.journal).links search.patterns
       → IsAllowed search.patterns r (pattern_of x (search.harts r)) → Gone r (hart r) c new x → Brings r c new x
   brings r c new x out sides within (alone stamp own ranks_are journal boxes) = record {
     then = told x (hart r) answer.Alone stamp;
     home = home_told image r (hart r) x answer.Alone stamp;
     ranks_are = ranks_are;
-    held = λ s y inside mine its held.
-        subst (λ j. IsHeld (hub_of j) new.boxes s y) (sym journal)
-        (subst (λ bs. IsHeld (hub_of c.journal) bs s y) (sym boxes) held);
+    waits = λ s y inside mine its waits.
+        subst (λ j. WaitsAt (hub_of j) new.boxes s y (asked y (hart s))) (sym journal)
+        (subst (λ bs. WaitsAt (hub_of c.journal) bs s y (asked y (hart s))) (sym boxes) waits);
   }
   brings r c new x out sides within (called p also k) = record {
     then = told x (hart r) (answer.Reply (outcome (hub_of c.journal) r p).0) k.stamp;
     home = home_told image r (hart r) x (answer.Reply (outcome (hub_of c.journal) r p).0) k.stamp;
     ranks_are = k.ranks;
-    held = λ s y inside mine its held. record {
-      patient = held.patient;
-      waits = subst (λ h. WaitsAt h new.boxes s y (asked y (hart s))) (sym k.hubs)
-          (subst (λ bs. WaitsAt (outcome (hub_of c.journal) r p).1 bs s y (asked y (hart s))) (sym k.boxes)
-          (by s y (asked y (hart s)) inside mine its held.waits));
-    };
+    waits = λ s y inside mine its waits.
+        subst (λ h. WaitsAt h new.boxes s y (asked y (hart s))) (sym k.hubs)
+        (subst (λ bs. WaitsAt (outcome (hub_of c.journal) r p).1 bs s y (asked y (hart s))) (sym k.boxes)
+        (by s y (asked y (hart s)) inside mine its waits));
   }
     where
       links : (outcome (hub_of c.journal) r p).1.links ≡ (hub_of c.journal).links
@@ -342,12 +342,10 @@ module _ (search : Search) (image : ImageParts) (ranks : List ℕ) where
         then = told x (hart r) a stamp;
         home = home_told image r (hart r) x a stamp;
         ranks_are = l.ranks;
-        held = λ s y inside mine its held. record {
-          patient = held.patient;
-          waits = subst (λ j. WaitsAt (hub_of j) new.boxes s y (asked y (hart s))) (sym l.journal)
-              (subst (λ bs. WaitsAt (hub_of c.journal) bs s y (asked y (hart s))) (sym l.boxes)
-              (go s y (asked y (hart s)) held.waits));
-        };
+        waits = λ s y inside mine its waits.
+            subst (λ j. WaitsAt (hub_of j) new.boxes s y (asked y (hart s))) (sym l.journal)
+            (subst (λ bs. WaitsAt (hub_of c.journal) bs s y (asked y (hart s))) (sym l.boxes)
+            (go s y (asked y (hart s)) waits));
       }
         where
           go : (s : ℕ) (y : Rank) (q : Ask) → WaitsAt (hub_of c.journal) c.boxes s y q
@@ -430,7 +428,7 @@ module _ (search : Search) (image : ImageParts) (ranks : List ℕ) where
     other_there : (s : ℕ) (y : Rank) → r ≢ s → slice_get c.ranks s ≡ Some y → slice_get new.ranks s ≡ Some y
     other_there s y apart there = ap (λ xs. slice_get xs s) set ∙ get-set_other c.ranks r s then apart ∙ there
 
-    home_all : AreHome image c → IsHome image r then → AreHome image new
+    pub home_all : AreHome image c → IsHome image r then → AreHome image new
     home_all home mine = each_rank (IsHome image) mine (λ s y apart there. home s y there)
 
   home_clock : (r : ℕ) (x : Rank) (clock : ℕ) → IsHome image r x → IsHome image r (at_clock x clock)
@@ -476,8 +474,14 @@ module _ (search : Search) (image : ImageParts) (ranks : List ℕ) where
         sides = subst (λ (h : HubView). AreOnSides h.links search.patterns) (sym p.hub) old.sides;
       }
 
-  out_of : (r s : ℕ) → is_among ranks r ≡ false → is_among ranks s ≡ true → r ≢ s
+  pub out_of : (r s : ℕ) → is_among ranks r ≡ false → is_among ranks s ≡ true → r ≢ s
   out_of r s out inside same = (let also = subst (λ k. is_among ranks k ≡ false) same out in absurd (cc))
+
+  held_by : (r : ℕ) (c new : Cluster) (x : Rank) → Brings r c new x → (s : ℕ) (y : Rank) → is_among ranks s ≡ true
+      → IsHome image r x → IsHome image s y → IsHeld (hub_of c.journal) c.boxes s y
+      → IsHeld (hub_of new.journal) new.boxes s y
+  held_by r c new x b s y among mine its held =
+      record { patient = held.patient; waits = b.waits s y among mine its held.waits }
 
   -- of another rank
   brings_still : (r : ℕ) (c new : Cluster) (x : Rank) → slice_get c.ranks r ≡ Some x → is_among ranks r ≡ false → AreStill c
@@ -492,14 +496,14 @@ module _ (search : Search) (image : ImageParts) (ranks : List ℕ) where
             ∙ there in
             elim (old.still s y among at) [
               | inl stopped ↦ inl stopped
-              | inr held ↦ inr (b.held s y among mine (old.home s y at) held)
+              | inr held ↦ inr (held_by r c new x b s y among mine (old.home s y at) held)
             ];
         some = record {
           r = w.r;
           rank = w.rank;
           among = w.among;
           there = other_there r c new x b.then here set w.r w.rank (out_of r w.r out w.among) w.there;
-          held = b.held w.r w.rank w.among mine (old.home w.r w.rank w.there) w.held;
+          held = held_by r c new x b w.r w.rank w.among mine (old.home w.r w.rank w.there) w.held;
         };
         home = home_all r c new x b.then here set old.home (b.home mine);
         sides = subst (λ ls. AreOnSides ls search.patterns) (sym links) old.sides;
@@ -527,9 +531,57 @@ module _ (search : Search) (image : ImageParts) (ranks : List ℕ) where
       (gone r (hart r) a.cluster mid t.rank t.there
       (made_within search.patterns r (hart r) t.rank (inside.0 t.rank t.there).0) walk.1))
 
+  -- ---- what could come from them alone
+
+  -- by the rule of ranks that are stuck too
+  pub vain_of : (c : Cluster) (r : ℕ) (x : Rank) (ask : Ask) → WaitsAt (hub_of c.journal) c.boxes r x ask
+      → AsksInVain ranks c r x.site ask
+  vain_of c r x (Ask.Hub q) waits = waits
+  vain_of c r x (Ask.Look link part) waits =
+      (waits.0, λ k could. waits.1 k (ap (λ ls. sends_over ls link k) (links_of c) ∙ could))
+  vain_of c r x (Ask.Freed link part) waits =
+      (waits.0, λ k could. waits.1 k (ap (λ ls. is_receiver ls k link) (links_of c) ∙ could))
+  vain_of c r x _ waits = absurd waits
+
+  -- it is no claim that finds its message
+  pub claims_none : (c : Cluster) (r : ℕ) (x : Rank) (ask : Ask) → WaitsAt (hub_of c.journal) c.boxes r x ask
+      → FindsClaim c r ask → ⊥
+  claims_none c r x (Ask.Hub q) waits found = claims_or_vain c r q (reply_is c.journal r q ∙ waits.0) found
+  claims_none c r x (Ask.Look link part) waits found = found
+  claims_none c r x (Ask.Freed link part) waits found = found
+  claims_none c r x _ waits found = absurd waits
+
+  -- and so it is in a cluster that is alike
+  pub waits_alike : (a b : State search) (alike : Alike search a b) (r : ℕ) (x y : Rank) (ask : Ask) → y.site ≡ x.site
+      → AskWithin search.wild r ask → AskOfLive a.cluster ask → WaitsAt (hub_of a.cluster.journal) a.cluster.boxes r x ask
+      → WaitsAt (hub_of b.cluster.journal) b.cluster.boxes r y (ask_by alike.0 ask)
+  waits_alike a b alike r x y (Ask.Hub q) site may live waits = (
+    (answers_law.reply) search.wild alike.0 a.cluster.journal.links b.cluster.journal.links
+        (calls_of a.cluster.journal.entries) (calls_of b.cluster.journal.entries) r q may live (alike.1).hubs
+        ∙ waits.0,
+    subst (λ (z : Site). IsUpTo (is_member z) (is_among ranks) (hub_of b.cluster.journal) r (request_by alike.0 q))
+        (sym site)
+        (up_to_named (is_member x.site) (is_among ranks) search.wild alike.0 (hub_of a.cluster.journal)
+        (hub_of b.cluster.journal) (alike.1).hubs
+        (owned_after a.cluster.journal.links (calls_of a.cluster.journal.entries)) r q live waits.0 waits.1),
+  )
+  waits_alike a b alike r x y (Ask.Look link part) site may live waits = (
+    λ box there. (let f = each_from (alike.1).boxes (box_number link part) box there in
+        empty_too f.0 box f.2 (waits.0 f.0 f.1)),
+    λ k could. waits.1 k (ap (λ ls. sends_over ls link k) (sym (alike.1).hubs.links) ∙ could),
+    waits.2,
+  )
+  waits_alike a b alike r x y (Ask.Freed link part) site may live waits = (
+    λ box there empty. (let f = each_from (alike.1).boxes (box_number link part) box there in
+        waits.0 f.0 f.1 (empty_before f.0 box f.2 empty)),
+    λ k could. waits.1 k (ap (λ ls. is_receiver ls k link) (sym (alike.1).hubs.links) ∙ could),
+    waits.2,
+  )
+  waits_alike a b alike r x y _ site may live waits = absurd waits
+
   -- ---- a company is still
 
-  held_of : (c : Cluster) (r : ℕ) (x : Rank) → IsAllowed search.patterns r (pattern_of x (search.harts r))
+  pub held_of : (c : Cluster) (r : ℕ) (x : Rank) → IsAllowed search.patterns r (pattern_of x (search.harts r))
       → (hub_of c.journal).links ≡ c.journal.links → IsStuckHart ranks c r x (hart r)
       → IsHeld (hub_of c.journal) c.boxes r x
   held_of c r x within links stuck =
@@ -557,7 +609,7 @@ module _ (search : Search) (image : ImageParts) (ranks : List ℕ) where
       go (Ask.Ready link part bytes) is in_vain = absurd in_vain
 
   module _ (zero_harts : (r : ℕ) → search.harts r ≡ 0) where
-    below_one : (r : ℕ) (x : Rank) → length x.harts ≡ 1 → hart r < length x.harts
+    pub below_one : (r : ℕ) (x : Rank) → length x.harts ≡ 1 → hart r < length x.harts
     below_one r x one = (let none = zero_harts r in omega (arith, none, one))
 
     -- whichever hart of a rank waits is its one
@@ -603,49 +655,7 @@ module _ (search : Search) (image : ImageParts) (ranks : List ℕ) where
     -- ---- and a company at the node that is alike
 
     module _ (a node : State search) (alike : Alike search a node) (fit : IsFit search node.cluster)
-        (still : AreStill a.cluster) (own_links : (hub_of node.cluster.journal).links ≡ node.cluster.journal.links) where
-      node_links : node.cluster.journal.links ≡ (hub_of a.cluster.journal).links
-      node_links = sym own_links ∙ (alike.1).hubs.links
-
-      -- in vain there too
-      vain_too : (r : ℕ) (x y : Rank) (ask : Ask) → y.site ≡ x.site → AskWithin search.wild r ask → AskOfLive a.cluster ask
-          → WaitsAt (hub_of a.cluster.journal) a.cluster.boxes r x ask
-          → AsksInVain ranks node.cluster r y.site (ask_by alike.0 ask)
-      vain_too r x y (Ask.Hub q) site may live waits = (
-        (answers_law.reply) search.wild alike.0 a.cluster.journal.links node.cluster.journal.links
-            (calls_of a.cluster.journal.entries) (calls_of node.cluster.journal.entries) r q may live (alike.1).hubs
-            ∙ waits.0,
-        subst (λ (z : Site). IsUpTo (is_member z) (is_among ranks) (hub_of node.cluster.journal) r (request_by alike.0 q))
-            (sym site)
-            (up_to_named (is_member x.site) (is_among ranks) search.wild alike.0 (hub_of a.cluster.journal)
-            (hub_of node.cluster.journal) (alike.1).hubs
-            (owned_after a.cluster.journal.links (calls_of a.cluster.journal.entries)) r q live waits.0 waits.1),
-      )
-      vain_too r x y (Ask.Look link part) site may live waits = (
-        λ box there. (let f = each_from (alike.1).boxes (box_number link part) box there in
-            empty_too f.0 box f.2 (waits.0 f.0 f.1)),
-        λ k could. waits.1 k (ap (λ ls. sends_over ls link k) (sym node_links) ∙ could),
-      )
-      vain_too r x y (Ask.Freed link part) site may live waits = (
-        λ box there empty. (let f = each_from (alike.1).boxes (box_number link part) box there in
-            waits.0 f.0 f.1 (empty_before f.0 box f.2 empty)),
-        λ k could. waits.1 k (ap (λ ls. is_receiver ls k link) (sym node_links) ∙ could),
-      )
-      vain_too r x y _ site may live waits = absurd waits
-
-      -- and it claims nothing
-      claims_nothing : (r : ℕ) (x : Rank) (ask : Ask) → AskWithin search.wild r ask → AskOfLive a.cluster ask
-          → WaitsAt (hub_of a.cluster.journal) a.cluster.boxes r x ask → FindsClaim node.cluster r (ask_by alike.0 ask) → ⊥
-      claims_nothing r x (Ask.Hub q) may live waits found =
-          claims_or_vain node.cluster r (request_by alike.0 q)
-          (reply_is node.cluster.journal r (request_by alike.0 q)
-          ∙ (answers_law.reply) search.wild alike.0 a.cluster.journal.links node.cluster.journal.links
-          (calls_of a.cluster.journal.entries) (calls_of node.cluster.journal.entries) r q may live (alike.1).hubs
-          ∙ waits.0) found
-      claims_nothing r x (Ask.Look link part) may live waits found = found
-      claims_nothing r x (Ask.Freed link part) may live waits found = found
-      claims_nothing r x _ may live waits found = absurd waits
-
+        (still : AreStill a.cluster) where
       held_too : (r : ℕ) (x y : Rank) → slice_get a.cluster.ranks r ≡ Some x → slice_get node.cluster.ranks r ≡ Some y
           → AlikeRanks alike.0 (awake x) (awake y) → IsHeld (hub_of a.cluster.journal) a.cluster.boxes r x
           → IsStuckHart ranks node.cluster r y (hart r)
@@ -658,14 +668,14 @@ module _ (search : Search) (image : ImageParts) (ranks : List ℕ) where
           let may = (within x here).1 in
           let live = asks_live search a r (hart r) x here in
           let site : y.site ≡ x.site = ap (λ (z : Rank). z.site) both.1 in
+          let waits = subst (WaitsAt (hub_of node.cluster.journal) node.cluster.boxes r y) (sym asks)
+          (waits_alike a node alike r x y (asked x (hart r)) site may live held.waits) in
           record {
             patient = elim (fit.rests r y there on) [
-              | inl waits ↦ waits.0
-              | inr found ↦ absurd (claims_nothing r x (asked x (hart r)) may live held.waits
-                  (subst (FindsClaim node.cluster r) asks found))
+              | inl patient ↦ patient.0
+              | inr found ↦ absurd (claims_none node.cluster r y (asked y (hart r)) waits found)
             ];
-            in_vain = subst (AsksInVain ranks node.cluster r y.site) (sym asks)
-                (vain_too r x y (asked x (hart r)) site may live held.waits);
+            in_vain = vain_of node.cluster r y (asked y (hart r)) waits;
           }
 
       stuck_too : AreStuck ranks node.cluster

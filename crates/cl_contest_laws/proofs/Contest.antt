@@ -1,7 +1,8 @@
 -- What a closed list tells of a run.
-use Rattle.std.proofs.Common.{◌∙◌, ℕ, refl, sym, subst, List, map}
+use Rattle.std.proofs.Common.{◌≡◌, ◌∙◌, ℕ, refl, sym, subst, true, List, map}
 use Rattle.cl_machine.specs.declared.steps.Step.{Step}
 use Rattle.cl_machine.specs.Cluster.{Cluster, IsRun}
+use Rattle.cl_order_laws.specs.Alike.{hub_of}
 use Rattle.cl_order_laws.specs.Closed.{FollowPlans, IsEnd, Node, Plans, had_after}
 use Rattle.cl_order_laws.specs.Sure.{GoesOn}
 use Rattle.cl_order_laws.proofs.Covered.{node_of}
@@ -9,23 +10,25 @@ use Rattle.cl_order_laws.proofs.Walks.{walk_of}
 use Rattle.cl_outcome_laws.specs.Companies.{IsCompany}
 use Rattle.cl_outcome_laws.specs.Laws.{HasCompany}
 use Rattle.cl_reduction_laws.specs.Below.{AreAlike}
-use Rattle.cl_schedule_laws.specs.Laws.{IsFound}
+use Rattle.cl_rest_laws.specs.Buffering.{NeedBuffers}
+use Rattle.cl_schedule_laws.specs.Laws.{IsFound, IsLasting}
 use Rattle.cl_reduction_laws.specs.Clusters.{Search, State, cluster_machine}
 use Rattle.cl_reduction_laws.specs.Settled.{AllWithin, AreOnSides, IsSettled}
 use Rattle.cl_reduction_laws.proofs.Clusters.{cluster_machine_law}
-use Rattle.cl_contest_laws.specs.Laws.{ContestLaw, HasAlikeEnd}
+use Rattle.cl_contest_laws.specs.Laws.{ContestLaw, HasAlikeEnd, HasNeed}
 use Rattle.cl_contest_laws.specs.Lists.{IsClosedByContest, IsOneOf, StartsWell}
 use Rattle.cl_contest_laws.proofs.Companies.{company_still, company_too, still_walk}
-use Rattle.cl_contest_laws.proofs.Homes.{home_of, links_of, links_walk}
+use Rattle.cl_contest_laws.proofs.Homes.{AreHome, home_of, links_of, links_walk}
 use Rattle.cl_contest_laws.proofs.Ends.{alike_asleep, rest_too}
-use Rattle.cl_contest_laws.proofs.Kept.{AreClosed, kept}
+use Rattle.cl_contest_laws.proofs.Kept.{AreClosed, Anything, anything_lasts, kept}
 use Rattle.cl_contest_laws.proofs.Lists.{HasOneEach, all_rest, comes, is_end, list_closed, one_walk, planned_of}
+use Rattle.cl_contest_laws.proofs.Quiet.{AreQuiet, need_there, quiet_lasts, quiet_of}
 use Rattle.cl_contest_laws.proofs.Rest.{Alike, AllRest, alike_back, alike_on, rest_walk}
 use Rattle.cl_contest_laws.proofs.Walks.{IsPlanned, Walked, arrives, walked}
 
 -- where all rest, the node that is found is alike
-module _ (search : Search) (Is : Cluster → Type 0) (a : State search)
-    (f : IsFound (cluster_machine search) (kept search Is) a) (rest : AllRest search a.cluster) where
+module _ (search : Search) (Is : Cluster → Type 0) (P : State search → Type 0) (a : State search)
+    (f : IsFound (cluster_machine search) (kept search Is) P a) (rest : AllRest search a.cluster) where
   pub node_alike : Alike search a f.node
   node_alike =
       alike_on search a f.there f.node
@@ -50,11 +53,16 @@ module _ (search : Search) (plans : Plans) (nodes : List Node) (start : Node) (w
     pub came : Walked search plans planned ranks_of first last.cluster
     came = walked search plans planned (IsOneOf nodes) are_closed settled.0 first settled.1 ranks_of start last refl walk
 
-    pub finds : IsFound (cluster_machine search) (kept search (IsOneOf nodes)) came.last
-    finds = arrives search plans planned (IsOneOf nodes) are_closed settled.0 first settled.1 ranks_of last.cluster came
+    pub finds : (P : State search → Type 0) → IsLasting (cluster_machine search) P
+        → IsFound (cluster_machine search) (kept search (IsOneOf nodes)) P came.last
+    finds P lasts =
+        arrives search plans planned (IsOneOf nodes) are_closed settled.0 first settled.1 P lasts ranks_of last.cluster came
+
+    pub finds_node : IsFound (cluster_machine search) (kept search (IsOneOf nodes)) (Anything search) came.last
+    finds_node = finds (Anything search) (anything_lasts search)
 
     within_walk : AllWithin search last.cluster
-    within_walk = subst (AllWithin search) came.is finds.within
+    within_walk = subst (AllWithin search) came.is finds_node.within
 
     one : HasOneEach came.last.cluster
     one = subst HasOneEach (sym came.is) (one_walk plans ranks_of start last walk (well.single).one)
@@ -64,10 +72,10 @@ module _ (search : Search) (plans : Plans) (nodes : List Node) (start : Node) (w
     end_of : IsEnd plans last.cluster → HasAlikeEnd search plans nodes last.cluster
     end_of is =
         let a = came.last in
-        let node = finds.node in
-        let at : IsOneOf nodes node.cluster = finds.is in
+        let node = finds_node.node in
+        let at : IsOneOf nodes node.cluster = finds_node.is in
         let rest = all_rest search plans planned a.cluster (subst (IsEnd plans) (sym came.is) is) in
-        let alike = node_alike search (IsOneOf nodes) a finds rest in
+        let alike = node_alike search (IsOneOf nodes) (Anything search) a finds_node rest in
         let fit = are_closed.fit node.cluster at in
         let rests = rest_too search (well.single).harts a node alike fit rest in
         let same = alike_asleep search (well.single).harts a node alike fit rest one in (
@@ -98,27 +106,52 @@ module _ (search : Search) (plans : Plans) (nodes : List Node) (start : Node) (w
     within : AllWithin search end
     within = within_walk steps_ranks end_node walk_there
 
+    -- who is on which side of a link is so at a node, and so where the run led
+    abbrev there : State search
+    there = (came steps_ranks end_node walk_there).last
+
+    sides_there : AreOnSides (hub_of there.cluster.journal).links search.patterns
+    sides_there =
+        let f = finds_node steps_ranks end_node walk_there in
+        subst (λ ls. AreOnSides ls search.patterns)
+        (((f.alike).1).hubs.links ∙ links_walk search f.more there f.there f.walk f.inside)
+        (are_closed.fit f.node.cluster f.is).sides
+
+    home_there : AreHome (well.reached).0 there.cluster
+    home_there =
+        home_of (well.reached).0 there.cluster
+        (comes start.cluster there.cluster steps well.reached
+        (subst (IsRun start.cluster steps) (sym (came steps_ranks end_node walk_there).is) run))
+        (one steps_ranks end_node walk_there)
+
     -- ---- a company
 
     companies : (ranks : List ℕ) → IsCompany ranks end → HasCompany ranks nodes
     companies ranks company =
         let c = came steps_ranks end_node walk_there in
-        let a = c.last in
-        let f = finds steps_ranks end_node walk_there in
+        let f = finds_node steps_ranks end_node walk_there in
         let at : IsOneOf nodes f.node.cluster = f.is in
         let image = (well.reached).0 in
-        let run_there = subst (IsRun start.cluster steps) (sym c.is) run in
-        let home = home_of image a.cluster (comes start.cluster a.cluster steps well.reached run_there)
-        (one steps_ranks end_node walk_there) in
-        let still = still_walk search image ranks f.more a f.there f.walk f.inside
-        (company_still search image ranks (well.single).harts a.cluster f.within home (links_of a.cluster)
-        (subst (λ ls. AreOnSides ls search.patterns)
-        (((f.alike).1).hubs.links ∙ links_walk search f.more a f.there f.walk f.inside)
-        (are_closed.fit f.node.cluster at).sides)
-        (subst (IsCompany ranks) (sym c.is) company)) in
-        let there = company_too search image ranks (well.single).harts f.there f.node f.alike
-        (are_closed.fit f.node.cluster at) still (links_of f.node.cluster) in
-        (at.0, at.1, at.2, subst (IsCompany ranks) (sym at.3) there)
+        let still = still_walk search image ranks f.more there f.there f.walk f.inside
+        (company_still search image ranks (well.single).harts there.cluster f.within home_there
+        (links_of there.cluster) sides_there (subst (IsCompany ranks) (sym c.is) company)) in
+        let too = company_too search image ranks (well.single).harts f.there f.node f.alike
+        (are_closed.fit f.node.cluster at) still in
+        (at.0, at.1, at.2, subst (IsCompany ranks) (sym at.3) too)
+
+    -- ---- ranks that need buffers
+
+    buffering : search.may_wait ≡ true → (ranks : List ℕ) → NeedBuffers ranks end → HasNeed ranks nodes
+    buffering may_wait ranks need =
+        let image = (well.reached).0 in
+        let f = finds steps_ranks end_node walk_there (λ (a : State search). AreQuiet search image ranks a.cluster)
+        (quiet_lasts search image ranks may_wait) in
+        let at : IsOneOf nodes f.node.cluster = f.is in
+        let quiet = f.keeps
+        (quiet_of search image ranks (well.single).harts there.cluster f.within home_there sides_there
+        (subst (NeedBuffers ranks) (sym (came steps_ranks end_node walk_there).is) need)) in
+        let needs = need_there search image ranks (well.single).harts f.node.cluster (are_closed.fit f.node.cluster at) quiet in
+        (at.0, at.1, at.2, subst (NeedBuffers ranks) (sym at.3) needs)
 
 pub contest_law : ContestLaw
 contest_law = record {
@@ -128,6 +161,8 @@ contest_law = record {
       end_of search plans nodes start well settled closed ranks last walk is;
   companies = λ search plans nodes start well settled closed steps end run follow ranks company.
       companies search plans nodes start well settled closed steps end run follow ranks company;
+  buffering = λ search plans nodes start well settled closed waits steps end run follow ranks need.
+      buffering search plans nodes start well settled closed steps end run follow waits ranks need;
   within = λ search plans nodes start well settled closed steps end run follow.
       within search plans nodes start well settled closed steps end run follow;
 }

@@ -16,9 +16,9 @@ use Rattle.cl_reduction_laws.specs.Below.{AreAlike}
 use Rattle.cl_reduction_laws.specs.Below.{Turn}
 use Rattle.cl_schedule_laws.specs.Machines.{IsMachine}
 use Rattle.cl_order_laws.specs.Orders.{is_miss}
-use Rattle.cl_schedule_laws.specs.Laws.{HasFound, IsClosed, IsNearer, IsOnItsWay, Kept}
+use Rattle.cl_schedule_laws.specs.Laws.{HasFound, IsClosed, IsLasting, IsNearer, IsOnItsWay, Kept}
 use Rattle.cl_schedule_laws.proofs.Schedules.{has_found}
-use Rattle.cl_reduction_laws.specs.Clusters.{Found, GoesFirst, IsWithin, Search, State, awake_cluster, cluster_machine, weight_in, weight_of}
+use Rattle.cl_reduction_laws.specs.Clusters.{Found, GoesAnyway, GoesFirst, IsWithin, Search, State, awake_cluster, cluster_machine, weight_in, weight_of}
 use Rattle.cl_reduction_laws.specs.Settled.{AllWithin, FindsClaim, HasAlike, IsFit, IsSettled, Settles}
 use Rattle.cl_reduction_laws.proofs.Clusters.{cluster_machine_law, first_misses}
 use Rattle.cl_reduction_laws.proofs.First.{polls_on}
@@ -64,6 +64,17 @@ light_claims_none c r rank hart light found = go (mode_of rank hart) light found
     go (Waiting Again) light found = absurd (omega (arith, light))
     go (Ended value) light found = absurd (omega (arith, light))
     go (Trapped cause pc) light found = absurd (omega (arith, light))
+
+-- where only the node itself is sought
+abbrev pub Anything : (search : Search) → State search → Type 0
+Anything search a = Unit {0}
+
+pub anything_lasts : (search : Search) → IsLasting (cluster_machine search) (Anything search)
+anything_lasts search = record {
+  alike = λ a b alike holds. tt;
+  sure = λ rs r a b sure among goes holds. tt;
+  ready = λ r a b ready goes holds. tt;
+}
 
 module _ (search : Search) (Is : Cluster → Type 0) where
   abbrev pub kept : Kept (cluster_machine search)
@@ -138,9 +149,10 @@ module _ (search : Search) (Is : Cluster → Type 0) where
     ]
 
     goes : (n : ℕ) (a : State search) → AllWithin search a.cluster → (r : ℕ) (rank : Rank)
-        → slice_get a.cluster.ranks r ≡ Some rank → GoesFirst search a.cluster r rank → Follows n a.cluster r
+        → slice_get a.cluster.ranks r ≡ Some rank → GoesFirst search a.cluster r rank → GoesAnyway search a.cluster r
+        → Follows n a.cluster r
         → IsOnItsWay (cluster_machine search) kept (suc n) a
-    goes n a within r rank there first on =
+    goes n a within r rank there first anyway on =
         inr (
           λ s. s == r,
           r,
@@ -152,6 +164,7 @@ module _ (search : Search) (Is : Cluster → Type 0) where
             there = there;
             first = first;
             within = within r;
+            anyway = anyway;
           },
           eq-eqb r r refl,
           λ b found. (n, omega arith, on b.cluster found),
@@ -164,7 +177,7 @@ module _ (search : Search) (Is : Cluster → Type 0) where
     settles zero a s = inl (node_of a s.1)
     settles (suc n) a s = elim s.1 [
       | inl alike ↦ inl (node_of a alike)
-      | inr on ↦ goes n a s.0 on.0 on.1 on.2 on.3 on.4
+      | inr on ↦ goes n a s.0 on.0 on.1 on.2 on.3 on.4 on.5
     ]
 
     asks : (n r : ℕ) (a : State search) → Settles search Is n a.cluster → IsWithin search a.cluster r
@@ -181,5 +194,7 @@ module _ (search : Search) (Is : Cluster → Type 0) where
       asks = asks;
     }
 
-    pub found : HasFound (cluster_machine search) kept
-    found = has_found (cluster_machine search) kept is closed
+    -- what lasts holds of the node that is found if it holds where the run led
+    pub found : (P : State search → Type 0) → IsLasting (cluster_machine search) P
+        → HasFound (cluster_machine search) kept P
+    found P lasts = has_found (cluster_machine search) kept is closed P lasts

@@ -6,6 +6,7 @@ pub mod Ends
 pub mod Lists
 pub mod Homes
 pub mod Companies
+pub mod Quiet
 pub mod Contest
 pub mod Asleep
 pub mod Unending

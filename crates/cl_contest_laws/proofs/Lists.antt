@@ -38,7 +38,7 @@ settles_in search Is Also all (suc n) c s = (
   elim s.1 [
     | inl alike ↦ inl (alike.0, all alike.0 alike.1, alike.2)
     | inr on ↦ inr
-        (on.0, on.1, on.2, on.3, λ new turn. settles_in search Is Also all n new (on.4 new turn))
+        (on.0, on.1, on.2, on.3, on.4, λ new turn. settles_in search Is Also all n new (on.5 new turn))
   ],
 )
 

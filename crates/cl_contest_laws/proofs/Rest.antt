@@ -1,5 +1,5 @@
 -- Turns of harts that are stopped or wait in vain.
-use Rattle.std.proofs.Common.{◌≡◌, ◌∙◌, ℕ, sym, ap, subst, ◌⊎◌, inl, inr, List, [], ◌∷◌, Some}
+use Rattle.std.proofs.Common.{◌≡◌, ◌∙◌, ℕ, sym, ap, subst, ◌⊎◌, inl, inr, true, List, [], ◌∷◌, Some}
 use Rattle.std.specs.Prelude.{map}
 use Rattle.std.specs.List.{slice_get, slice_set}
 use Rattle.mp_types.specs.declared.replies.Reply.TheVariants.{NotYet}
@@ -8,11 +8,11 @@ use Rattle.mp_types.specs.declared.requests.Request.TheVariants as request
 use Rattle.mp_alike_laws.specs.Renaming.{no_renaming}
 use Rattle.cl_state.specs.declared.asking.Answer.TheVariants as answer
 use Rattle.cl_state.specs.declared.asking.Ask.{Ask}
-use Rattle.cl_state.specs.Asked.{asked}
+use Rattle.cl_state.specs.Asked.{asked, doing, part_of}
 use Rattle.cl_state.specs.Rank.{Rank}
 use Rattle.cl_state.specs.Told.{told}
 use Rattle.cl_state_laws.specs.Awake.{awake}
-use Rattle.cl_state_laws.specs.Vain.{IsStopped, mode_of}
+use Rattle.cl_state_laws.specs.Vain.{IsStopped, mode_of, waits_on}
 use Rattle.cl_state_laws.specs.VainLaws.{at_clock}
 use Rattle.cl_state_laws.proofs.Vain.{vain_law}
 use Rattle.cl_machine.specs.Cluster.{Cluster}
@@ -75,7 +75,7 @@ module _ (search : Search) where
   abbrev pub AllRest : Cluster → Type 0
   AllRest c = (r : ℕ) (rank : Rank) → slice_get c.ranks r ≡ Some rank → Rests c r rank
 
-  stopped_turn : (r : ℕ) (c new : Cluster) (rank : Rank) → slice_get c.ranks r ≡ Some rank → IsStopped (mode_of rank (hart r))
+  pub stopped_turn : (r : ℕ) (c new : Cluster) (rank : Rank) → slice_get c.ranks r ≡ Some rank → IsStopped (mode_of rank (hart r))
       → Gone r (hart r) c new rank → IsSame c new
   stopped_turn r c new rank there stopped (alone stamp own ranks journal boxes) = record {
     ranks = each_waking c.ranks new.ranks r rank (told rank (hart r) answer.Alone stamp) stamp there ranks
@@ -88,19 +88,20 @@ module _ (search : Search) where
   stopped_turn r c new rank there stopped (met at box) =
       absurd (subst IsAtBox ((vain_law.stopped) rank (hart r) 0 answer.Alone stopped).0 at)
 
-  waiting_turn : (r : ℕ) (c new : Cluster) (rank : Rank) → slice_get c.ranks r ≡ Some rank → WaitsInVain c r rank (hart r)
+  pub waiting_turn : (r : ℕ) (c new : Cluster) (rank : Rank) → slice_get c.ranks r ≡ Some rank
+      → waits_on (doing rank.site (part_of rank (hart r))) ≡ true → IsInVain c r (asked rank (hart r))
       → Gone r (hart r) c new rank → IsSame c new
-  waiting_turn r c new rank there waits (alone stamp own ranks journal boxes) =
-      absurd (own_or_vain c r (asked rank (hart r)) own waits.1)
-  waiting_turn r c new rank there waits (called q asks k) =
-      vain search r c new rank q there (waits.0).on asks k
-      (sym (reply_is c.journal r q) ∙ subst (IsInVain c r) asks waits.1)
-  waiting_turn r c new rank there waits (met at box) = vain_box search r c new rank there (waits.0).on waits.1 box
+  waiting_turn r c new rank there on none (alone stamp own ranks journal boxes) =
+      absurd (own_or_vain c r (asked rank (hart r)) own none)
+  waiting_turn r c new rank there on none (called q asks k) =
+      vain search r c new rank q there on asks k
+      (sym (reply_is c.journal r q) ∙ subst (IsInVain c r) asks none)
+  waiting_turn r c new rank there on none (met at box) = vain_box search r c new rank there on none box
 
   pub rest_turn : (r : ℕ) (c new : Cluster) (rank : Rank) → slice_get c.ranks r ≡ Some rank → Rests c r rank
       → Gone r (hart r) c new rank → IsSame c new
   rest_turn r c new rank there (inl stopped) went = stopped_turn r c new rank there stopped went
-  rest_turn r c new rank there (inr waits) went = waiting_turn r c new rank there waits went
+  rest_turn r c new rank there (inr waits) went = waiting_turn r c new rank there (waits.0).on waits.1 went
 
   abbrev pub Alike : State search → State search → Type 0
   Alike a b = AreAlike search.wild (awake_cluster a.cluster) (awake_cluster b.cluster)

@@ -20,13 +20,13 @@ use Rattle.cl_reduction_laws.proofs.Clusters.{cluster_machine_law}
 use Rattle.cl_contest_laws.specs.Laws.{NeverEndsLaw}
 use Rattle.cl_contest_laws.specs.Lists.{IsClosedByContest, IsContestGraph, IsOneOf, StartsWell}
 use Rattle.cl_contest_laws.proofs.Asleep.{asleep}
-use Rattle.cl_contest_laws.proofs.Contest.{came, finds, node_alike}
+use Rattle.cl_contest_laws.proofs.Contest.{came, finds_node, node_alike}
 use Rattle.cl_contest_laws.proofs.Ends.{rest_too}
 use Rattle.cl_contest_laws.proofs.Good.{good_alike}
-use Rattle.cl_contest_laws.proofs.Kept.{AreClosed}
+use Rattle.cl_contest_laws.proofs.Kept.{AreClosed, Anything}
 use Rattle.cl_contest_laws.proofs.Lists.{IsInside, all_rest, graph_closed, inside_closed, is_end, list_closed, planned_of}
 use Rattle.cl_contest_laws.proofs.Rest.{Alike, alike_back}
-use Rattle.cl_contest_laws.proofs.Walks.{IsPlanned, arrives, by_plans, walked, walks_on}
+use Rattle.cl_contest_laws.proofs.Walks.{IsPlanned, arrives_node, by_plans, walked, walks_on}
 
 -- a node settles, by itself
 node_settles : (search : Search) (Is : Cluster → Type 0) → AreClosed search Is → (node : State search) → Is node.cluster
@@ -69,9 +69,9 @@ module _ (search : Search) (plans : Plans) (nodes : List Node) (edges : Edges) (
         let here : State search = record { cluster = node.cluster; good = good } in
         let settles = node_settles search Is all here (i, node, there, refl, is) in
         let w = walked search plans planned Is all 0 here settles after.0 node last refl after.1 in
-        let f = arrives search plans planned Is all 0 here settles after.0 last.cluster w in
+        let f = arrives_node search plans planned Is all 0 here settles after.0 last.cluster w in
         let rest = all_rest search plans planned w.last.cluster (end_at plans w.last.cluster last.cluster w.is end) in
-        let k = node_alike search Is w.last f rest in
+        let k = node_alike search Is (Anything search) w.last f rest in
         let to : Is f.node.cluster = f.is in
         let rests = rest_too search (well.single).harts w.last f.node k (all.fit f.node.cluster to) rest in
         trap.no_end to.0 to.1 to.4 to.2
@@ -89,7 +89,7 @@ module _ (search : Search) (plans : Plans) (nodes : List Node) (edges : Edges) (
         let rs = (ends.1).0 in
         let settles = node_settles search (IsOneOf nodes) every node at in
         let w = walked search plans planned (IsOneOf nodes) every 0 node settles rs at.1 ends.0 (sym at.3) (ends.1).1 in
-        let there = arrives search plans planned (IsOneOf nodes) every 0 node settles rs (ends.0).cluster w in
+        let there = arrives_node search plans planned (IsOneOf nodes) every 0 node settles rs (ends.0).cluster w in
         let rest = all_rest search plans planned w.last.cluster
         (end_at plans w.last.cluster (ends.0).cluster w.is ends.2) in
         let t = along (cluster_machine search) (cluster_machine_law search) rs node d w.last
@@ -133,7 +133,7 @@ module _ (search : Search) (plans : Plans) (nodes : List Node) (edges : Edges) (
         let ranks = map (λ (e : Step). e.rank) steps in
         let walk = walk_of plans steps start.cluster end start.had run follow in
         let c = came search plans nodes start well settled closed ranks (node_of end had) walk in
-        let f = finds search plans nodes start well settled closed ranks (node_of end had) walk in
+        let f = finds_node search plans nodes start well settled closed ranks (node_of end had) walk in
         let at : IsOneOf nodes f.node.cluster = f.is in
         let g = by_plans search plans planned f.more c.last f.there had f.walk in
         may_after plans (node_of end had) g.0 (f.more, starts_at plans f.more had c.last.cluster end g.0 c.is g.1)

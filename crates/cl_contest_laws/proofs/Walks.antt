@@ -6,14 +6,14 @@ use Rattle.cl_order_laws.specs.Sure.{Goes, GoesOn as GoesOnBy}
 use Rattle.cl_order_laws.proofs.Covered.{node_of}
 use Rattle.cl_reduction_laws.specs.Below.{Turn}
 use Rattle.cl_schedule_laws.specs.Machines.{AllWithin as AllInside, GoesOn}
-use Rattle.cl_schedule_laws.specs.Laws.{IsFound}
+use Rattle.cl_schedule_laws.specs.Laws.{IsFound, IsLasting}
 use Rattle.cl_schedule_laws.proofs.Walks.{snoc}
 use Rattle.cl_reduction_laws.specs.Clusters.{Search, State, cluster_machine}
 use Rattle.cl_reduction_laws.specs.Settled.{Settles}
 use Rattle.cl_reduction_laws.proofs.Clusters.{cluster_machine_law}
 use Rattle.cl_reduction_laws.proofs.Good.{good_after}
 use Rattle.cl_reduction_laws.proofs.Machine.{taken}
-use Rattle.cl_contest_laws.proofs.Kept.{AreClosed, found, kept}
+use Rattle.cl_contest_laws.proofs.Kept.{AreClosed, Anything, anything_lasts, found, kept}
 
 -- the plans name the hart of each rank that takes turns
 abbrev pub IsPlanned : Search → Plans → Type 0
@@ -76,7 +76,7 @@ module _ (search : Search) (plans : Plans) (planned : IsPlanned search plans) wh
     walked_from (r ∷ rs) ps at done here there same walk =
         let mid = (walk.0).cluster in
         let turn = subst (λ c. Turn r (search.harts r) c mid) (sym same) (turn_by_plans r here walk.0 walk.1) in
-        let f = found search Is nodes n start at ps settles done in
+        let f = found search Is nodes (Anything search) (anything_lasts search) n start at ps settles done in
         let t = taken r (search.harts r) at.cluster mid turn in
         let on : State search =
         record { cluster = mid; good = good_after search r at.cluster mid t.rank t.there at.good (f.within r) turn } in
@@ -88,7 +88,12 @@ module _ (search : Search) (plans : Plans) (planned : IsPlanned search plans) wh
         → Walked rs start there.cluster
     walked rs here there same walk = walked_from rs [] start refl here there same walk
 
-    -- from there turns within the patterns lead on to a node
-    pub arrives : (rs : List ℕ) (end : Cluster) → (w : Walked rs start end)
-        → IsFound (cluster_machine search) (kept search Is) w.last
-    arrives rs end w = found search Is nodes n start w.last rs settles w.walk
+    -- from there turns within the patterns lead on to a node, of which what lasts holds if it holds there
+    pub arrives : (P : State search → Type 0) → IsLasting (cluster_machine search) P → (rs : List ℕ) (end : Cluster)
+        → (w : Walked rs start end)
+        → IsFound (cluster_machine search) (kept search Is) P w.last
+    arrives P lasts rs end w = found search Is nodes P lasts n start w.last rs settles w.walk
+
+    pub arrives_node : (rs : List ℕ) (end : Cluster) → (w : Walked rs start end)
+        → IsFound (cluster_machine search) (kept search Is) (Anything search) w.last
+    arrives_node = arrives (Anything search) (anything_lasts search)

@@ -1,5 +1,5 @@
 -- What a list that is closed so tells of every run.
-use Rattle.std.specs.Prelude.{ℕ, ◌≡◌, Bool, IsTrue, List, Some}
+use Rattle.std.specs.Prelude.{ℕ, ◌≡◌, Bool, true, IsTrue, List, Some}
 use Rattle.std.specs.List.{slice_get}
 use Rattle.rv_image_types.specs.declared.images.ImageParts.{ImageParts}
 use Rattle.mp_clash_laws.specs.Exchanges.{WaitsWithin}
@@ -16,6 +16,7 @@ use Rattle.cl_outcome_laws.specs.Companies.{IsCompany}
 use Rattle.cl_outcome_laws.specs.Graphs.{Edges, IsTrap}
 use Rattle.cl_outcome_laws.specs.Laws.{HasCompany}
 use Rattle.cl_outcome_laws.specs.Unending.{MayEnd, NeverEnds}
+use Rattle.cl_rest_laws.specs.Buffering.{NeedBuffers}
 use Rattle.cl_reduction_laws.specs.Clusters.{IsGood, Search}
 use Rattle.cl_reduction_laws.specs.Settled.{AllWithin, IsSettled}
 use Rattle.cl_contest_laws.specs.Lists.{IsClosedByContest, IsContestGraph, IsOneOf, StartsWell}
@@ -25,6 +26,10 @@ use Rattle.cl_contest_laws.specs.Lists.{IsClosedByContest, IsContestGraph, IsOne
 abbrev pub HasAlikeEnd : Search → Plans → List Node → Cluster → Type 0
 HasAlikeEnd search plans nodes end =
     (i : ℕ) × (node : Node) × (slice_get nodes i ≡ Some node) × IsEnd plans node.cluster × AreAlike search.wild end node.cluster
+
+-- the ranks need buffers at one of the nodes
+abbrev pub HasNeed : List ℕ → List Node → Type 0
+HasNeed ranks nodes = (i : ℕ) × (node : Node) × (slice_get nodes i ≡ Some node) × NeedBuffers ranks node.cluster
 
 -- of every run that follows the plans, of any length and with any order of the ranks
 pub record ContestLaw : Type 0 where
@@ -46,6 +51,13 @@ pub record ContestLaw : Type 0 where
       → (steps : List Step) (end : Cluster) → IsRun start.cluster steps end → FollowPlans plans start.had steps
       → (ranks : List ℕ) → IsCompany ranks end
       → HasCompany ranks nodes
+  -- ranks that need buffers where it leads do so at some node, where standard sends may wait for their receives
+  pub buffering : (search : Search) (plans : Plans) (nodes : List Node) (start : Node)
+      → StartsWell search plans start.cluster → IsSettled search (IsOneOf nodes) start.cluster
+      → IsClosedByContest search plans nodes → search.may_wait ≡ true
+      → (steps : List Step) (end : Cluster) → IsRun start.cluster steps end → FollowPlans plans start.had steps
+      → (ranks : List ℕ) → NeedBuffers ranks end
+      → HasNeed ranks nodes
   -- each rank asks within the patterns wherever it leads
   pub within : (search : Search) (plans : Plans) (nodes : List Node) (start : Node)
       → StartsWell search plans start.cluster → IsSettled search (IsOneOf nodes) start.cluster

@@ -2,8 +2,8 @@
 
 ghost use Rattle.cl_contest_laws.specs.Laws.{ContestLaw, GoodLaw, NeverEndsLaw, StartsWellLaw};
 
-/// Of every run: its end is alike an end of the list, ranks that are stuck in it are stuck in one of the list, and each
-/// rank asks within the patterns all the way.
+/// Of every run: its end is alike an end of the list, ranks that are stuck in it are stuck in one of the list, and so are
+/// ranks that need buffers; and each rank asks within the patterns all the way.
 pub fn contest_law()
     ensures { ContestLaw }
 {}

@@ -33,11 +33,12 @@ claim_found c r q {comm} {source} {tag} is there =
     subst (λ p. FindsClaim c r (Ask.Hub p)) (sym is) (λ none. there (subst (λ p. IsInVain c r (Ask.Hub p)) (sym is) none))
 
 -- by what its turn was found to be, and what it was found to ask
-pub fit_rank : (kept : List AskedBy) (c : Cluster) (r : ℕ) (rank : Rank) (d : Doing) (ask : Ask) (waits : Bool)
+pub fit_rank : (may_wait : Bool) (kept : List AskedBy) (c : Cluster) (r : ℕ) (rank : Rank) (d : Doing) (ask : Ask) (waits : Bool)
     → d ≡ doing rank.site (part_of rank 0) → waits ≡ waits_on d → ask ≡ asked rank 0
     → IsAllowed (patterns_of kept) r (pattern_of_ask waits ask) → AskWithin (wild_of kept) r ask → StandsAtCall rank 0
-    → (waits ≡ true → (IsWaiting (mode_of rank 0) × IsInVain c r ask) ⊎ FindsClaim c r ask) → IsFitRank (search_of kept) c r rank
-fit_rank kept c r rank d ask waits spelled anew asks allowed within stands rests =
+    → (waits ≡ true → (IsWaiting (mode_of rank 0) × IsInVain c r ask) ⊎ FindsClaim c r ask)
+    → IsFitRank (search_of may_wait kept) c r rank
+fit_rank may_wait kept c r rank d ask waits spelled anew asks allowed within stands rests =
     let known : waits ≡ waits_on (doing rank.site (part_of rank 0)) = anew ∙ ap waits_on spelled in
     record {
       allowed = subst (λ w. IsAllowed (patterns_of kept) r (pattern_of_ask w (asked rank 0))) known
@@ -68,13 +69,13 @@ module _ (image : ImageParts) (standing : Standing) (node : Node) (stands : Stan
       of None is mapped = absurd (cc)
       of (Some own) is mapped = subst (P r) (same_Some (rank_of own) rank mapped) (each r own is)
 
-  pub all_fit : (kept : List AskedBy) → length (standing.whole).board.lines + 3 < 65536
+  pub all_fit : (may_wait : Bool) (kept : List AskedBy) → length (standing.whole).board.lines + 3 < 65536
       → WaitsWithin (wild_of kept) standing.whole → AreOnSides (standing.whole).links (patterns_of kept)
       → ((r : ℕ) (own : RankState) → slice_get ranks r ≡ Some own
-      → IsFitRank (search_of kept) node.cluster r (rank_of own))
-      → IsFit (search_of kept) node.cluster
-  all_fit kept room waits sides each =
-      let fits = each_rank (λ r rank. IsFitRank (search_of kept) node.cluster r rank) each in
+      → IsFitRank (search_of may_wait kept) node.cluster r (rank_of own))
+      → IsFit (search_of may_wait kept) node.cluster
+  all_fit may_wait kept room waits sides each =
+      let fits = each_rank (λ r rank. IsFitRank (search_of may_wait kept) node.cluster r rank) each in
       record {
         within = λ r rank there. let v = fits r rank there in (v.allowed, v.within);
         waits = subst (WaitsWithin (wild_of kept)) stands.whole waits;

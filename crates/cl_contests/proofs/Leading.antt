@@ -27,13 +27,16 @@ use Rattle.cl_moves.specs.Standing.{StandsAt, Takes, Took, by_order, node_of}
 use Rattle.cl_moves.specs.declared.standing.Standing.{Standing}
 use Rattle.cl_moves.proofs.Resting.{own_at}
 use Rattle.cl_moves.proofs.Surely.{reached_by}
+use Rattle.cl_rest_laws.specs.Rests.{rests}
 use Rattle.cl_reduction_laws.specs.Clusters.{Search, awake_cluster}
 use Rattle.cl_reduction_laws.specs.Patterns.{IsAllowed, MayMeet, pattern_of, pattern_of_ask}
 use Rattle.cl_reduction_laws.specs.Settled.{AllWithin}
 use Rattle.cl_contests.specs.declared.patterns.AskedBy.{AskedBy}
 use Rattle.cl_contests.specs.Going.{IsFirstHart, IsSettledThere, LeadsOn, SettlesFrom}
 use Rattle.cl_contests.specs.Kept.{patterns_of, search_of, wild_of}
-use Rattle.cl_contests.specs.Turns.{AsksWithin, GoesAlone, GoesInVain, GoesWithin, IsBusyKind, IsBusyTurn, IsFirstCall, IsFirstNext, IsFirstTurn, IsMaking, IsMeetingCall, IsMeetingNext, IsMeetingTurn, IsUncontested, IsVainCall, IsVainNext, IsVainTurn, TellsWithin}
+use Rattle.cl_contests.specs.Turns.{AsksWithin, GoesAlone, GoesInVain, GoesWithin, IsBusyKind, IsBusyTurn, IsFirstCall}
+use Rattle.cl_contests.specs.Turns.{IsFirstNext, IsFirstTurn, IsMaking, IsMeetingCall, IsMeetingNext, IsMeetingTurn}
+use Rattle.cl_contests.specs.Turns.{IsUncontested, IsVainCall, IsVainNext, IsVainTurn, MayGoFirst, TellsWithin}
 use Rattle.cl_contests.proofs.Settling.{alike_in_vain, alike_missed, settled_there, settles_alone, settles_met, settles_uncontested, settles_ready}
 
 -- ---- one after another
@@ -71,6 +74,11 @@ module _ (order : List ℕ) (P : Cluster → Cluster → Type 0) where
             (reached_by (by_order order) start here old.steps.items reached way) led.1,
       )
 
+-- a rank that may go first does so in the search
+pub goes_anyway : (may_wait : Bool) (old : Standing) (r : ℕ) → MayGoFirst may_wait old r
+    → (image : ImageParts) (here : Node) → StandsAt image old here → may_wait ≡ true → rests here.cluster r 0 ≡ false
+goes_anyway may_wait old r anyway image here stands waits = sym (anyway waits image here stands)
+
 -- ---- turns that need only their rank
 
 busy_of : (ask : Ask) (kind : Kind) → IsBusyKind ask kind → IsBusy ask
@@ -98,10 +106,10 @@ module _ (c : Cluster) (e : Step) (x : Rank) (stamp : e.stamp ≡ x.clock + 1) w
   case_is (Ask.Freed link part) kind asks is = absurd is
 
 -- it is a step of the machine
-busy_step : (old : Standing) (e : Step) (turn : IsBusyTurn old e) (c : Cluster)
+busy_step : (may_wait : Bool) (old : Standing) (e : Step) (turn : IsBusyTurn may_wait old e) (c : Cluster)
     → slice_get c.ranks e.rank ≡ Some (rank_of turn.own)
     → IsStep c e (only_told c e (rank_of turn.own) Answer.Alone)
-busy_step old e turn c there = (
+busy_step may_wait old e turn c there = (
   rank_of turn.own,
   there,
   subst (λ h. h < length turn.own.harts.items) (sym turn.hart_is) turn.inside,
@@ -110,23 +118,25 @@ busy_step old e turn c there = (
       (subst (λ h. IsBusyKind (asked (rank_of turn.own) h) e.kind) (sym turn.hart_is) turn.busy),
 )
 
-pub alone_taken : (old new : Standing) (e : Step) → IsBusyTurn old e → (b : Bool) → Takes old e new b → GoesAlone old new
-alone_taken old new e turn true took = λ order kept first.
-    leads_by order (SettlesFrom (search_of kept)) old new e turn.own first took turn.there turn.hart_is
+pub alone_taken : (may_wait : Bool) (old new : Standing) (e : Step) → IsBusyTurn may_wait old e → (b : Bool) → Takes old e new b
+    → GoesAlone may_wait old new
+alone_taken may_wait old new e turn true took = λ order kept first.
+    leads_by order (SettlesFrom (search_of may_wait kept)) old new e turn.own first took turn.there turn.hart_is
     (λ image here next stands there reached step.
-    settles_alone (search_of kept) here.cluster next e (rank_of turn.own) there turn.hart_is step
-    (busy_of (asked (rank_of turn.own) 0) e.kind turn.busy))
-alone_taken old new e turn false none = λ order kept first image start here stands way reached.
+    settles_alone (search_of may_wait kept) here.cluster next e (rank_of turn.own) there turn.hart_is step
+    (goes_anyway may_wait old e.rank turn.anyway image here stands) (busy_of (asked (rank_of turn.own) 0) e.kind turn.busy))
+alone_taken may_wait old new e turn false none = λ order kept first image start here stands way reached.
     absurd (none image here _ stands
-    (busy_step old e turn here.cluster (own_at image old.cluster here.cluster stands.stands e.rank turn.own turn.there)))
+    (busy_step may_wait old e turn here.cluster (own_at image old.cluster here.cluster stands.stands e.rank turn.own turn.there)))
 
-pub alone_stays : (old : Standing) → GoesAlone old old
-alone_stays old = λ order kept first.
-    leads_stay order (SettlesFrom (search_of kept)) old (λ c reached node settled. settled)
+pub alone_stays : (may_wait : Bool) (old : Standing) → GoesAlone may_wait old old
+alone_stays may_wait old = λ order kept first.
+    leads_stay order (SettlesFrom (search_of may_wait kept)) old (λ c reached node settled. settled)
 
-pub alone_more : (old mid new : Standing) → GoesAlone old mid → GoesAlone mid new → GoesAlone old new
-alone_more old mid new one two = λ order kept first.
-    leads_more order (SettlesFrom (search_of kept)) old mid new (λ a b c f g node settled. f node (g node settled))
+pub alone_more : (may_wait : Bool) (old mid new : Standing) → GoesAlone may_wait old mid → GoesAlone may_wait mid new
+    → GoesAlone may_wait old new
+alone_more may_wait old mid new one two = λ order kept first.
+    leads_more order (SettlesFrom (search_of may_wait kept)) old mid new (λ a b c f g node settled. f node (g node settled))
     (one order kept first) (two order kept first)
 
 -- ---- what is told of a turn
@@ -141,12 +151,13 @@ pub of_popped : (rank : ℕ) (turns rest : List Step) (turn : Step) → AreTurns
 of_popped rank turns rest turn own is =
     own (length rest) turn (subst (λ xs. slice_get xs (length rest) ≡ Some turn) (sym is) (at_last rest turn))
 
-pub told_first : (kept : List AskedBy) (standing : Standing) (rank : ℕ) (own : RankState) (request : Request)
+pub told_first : (may_wait : Bool) (kept : List AskedBy) (standing : Standing) (rank : ℕ) (own : RankState) (request : Request)
     → slice_get standing.cluster.ranks.items rank ≡ Some own → asked (rank_of own) 0 ≡ Ask.Hub request
-    → (o : Option Step) → IsFirstCall (search_of kept) rank request o
-    → IsFirstNext (search_of kept) standing o
-told_first kept standing rank own request there asks None call = tt
-told_first kept standing rank own request there asks (Some e) call = record {
+    → MayGoFirst may_wait standing rank
+    → (o : Option Step) → IsFirstCall (search_of may_wait kept) rank request o
+    → IsFirstNext (search_of may_wait kept) standing o
+told_first may_wait kept standing rank own request there asks anyway None call = tt
+told_first may_wait kept standing rank own request there asks anyway (Some e) call = record {
   own = own;
   there = subst (λ r. slice_get standing.cluster.ranks.items r ≡ Some own) (sym call.0) there;
   hart_is = call.1;
@@ -154,8 +165,9 @@ told_first kept standing rank own request there asks (Some e) call = record {
   asks = asks;
   first = elim call.2 [
     | inl ready ↦ inl ready
-    | inr may ↦ inr (subst (λ r. IsUncontested (search_of kept) r request) (sym call.0) may)
+    | inr may ↦ inr (subst (λ r. IsUncontested (search_of may_wait kept) r request) (sym call.0) may)
   ];
+  anyway = subst (MayGoFirst may_wait standing) (sym call.0) anyway;
 }
 
 pub told_vain : (standing : Standing) (rank : ℕ) (own : RankState) → slice_get standing.cluster.ranks.items rank ≡ Some own
@@ -172,19 +184,20 @@ told_vain standing rank own there on (Some e) call = record {
 
 -- ---- what ranks ask
 
-pub asks_of : (kept : List AskedBy) (r : ℕ) (own : RankState) (waits : Bool) (d : Doing) (ask : Ask) → waits ≡ waits_on d
+pub asks_of : (may_wait : Bool) (kept : List AskedBy) (r : ℕ) (own : RankState) (waits : Bool) (d : Doing) (ask : Ask)
+    → waits ≡ waits_on d
     → d ≡ doing own.site (part_of (rank_of own) 0) → ask ≡ asked (rank_of own) 0
     → IsAllowed (patterns_of kept) r (pattern_of_ask waits ask) → AskWithin (wild_of kept) r ask
-    → AsksWithin (search_of kept) r own
-asks_of kept r own waits d ask waits_is spelled asks allowed within = (
+    → AsksWithin (search_of may_wait kept) r own
+asks_of may_wait kept r own waits d ask waits_is spelled asks allowed within = (
   subst (λ a. IsAllowed (patterns_of kept) r (pattern_of_ask (waits_on (doing own.site (part_of (rank_of own) 0))) a)) asks
       (subst (λ w. IsAllowed (patterns_of kept) r (pattern_of_ask w ask)) (waits_is ∙ ap waits_on spelled) allowed),
   subst (AskWithin (wild_of kept) r) asks within,
 )
 
-module _ (kept : List AskedBy) (standing : Standing) where
+module _ (may_wait : Bool) (kept : List AskedBy) (standing : Standing) where
   abbrev search : Search
-  search = search_of kept
+  search = search_of may_wait kept
 
   abbrev items : List RankState
   items = standing.cluster.ranks.items
@@ -207,52 +220,62 @@ module _ (kept : List AskedBy) (standing : Standing) where
 
 -- ---- turns that nobody contests
 
-pub within_stays : (kept : List AskedBy) (old : Standing) → GoesWithin (search_of kept) old old true
-within_stays kept old = λ all order first.
-    leads_stay order (SettlesFrom (search_of kept)) old (λ c reached node settled. settled)
+pub within_stays : (may_wait : Bool) (kept : List AskedBy) (old : Standing) → GoesWithin (search_of may_wait kept) old old true
+within_stays may_wait kept old = λ all order first.
+    leads_stay order (SettlesFrom (search_of may_wait kept)) old (λ c reached node settled. settled)
 
-pub within_more : (kept : List AskedBy) (old mid new : Standing) → GoesWithin (search_of kept) old mid true
-    → GoesWithin (search_of kept) mid new true
-    → GoesWithin (search_of kept) old new true
-within_more kept old mid new one two = λ all order first.
-    leads_more order (SettlesFrom (search_of kept)) old mid new (λ a b c f g node settled. f node (g node settled))
+pub within_more : (may_wait : Bool) (kept : List AskedBy) (old mid new : Standing)
+    → GoesWithin (search_of may_wait kept) old mid true
+    → GoesWithin (search_of may_wait kept) mid new true
+    → GoesWithin (search_of may_wait kept) old new true
+within_more may_wait kept old mid new one two = λ all order first.
+    leads_more order (SettlesFrom (search_of may_wait kept)) old mid new (λ a b c f g node settled. f node (g node settled))
     (one refl order first) (two refl order first)
 
-pub within_alone : (kept : List AskedBy) (old new : Standing) → GoesAlone old new → GoesWithin (search_of kept) old new true
-within_alone kept old new one = λ all order first. one order kept first
+pub within_alone : (may_wait : Bool) (kept : List AskedBy) (old new : Standing) → GoesAlone may_wait old new
+    → GoesWithin (search_of may_wait kept) old new true
+within_alone may_wait kept old new one = λ all order first. one order kept first
 
-pub first_taken : (kept : List AskedBy) (old new : Standing) (e : Step) → TellsWithin (search_of kept) old true
-    → IsFirstTurn (search_of kept) old e → Took old e new
-    → GoesWithin (search_of kept) old new true
-first_taken kept old new e within turn took = λ all order first.
-    leads_by order (SettlesFrom (search_of kept)) old new e turn.own first took turn.there turn.hart_is
+pub first_taken : (may_wait : Bool) (kept : List AskedBy) (old new : Standing) (e : Step)
+    → TellsWithin (search_of may_wait kept) old true
+    → IsFirstTurn (search_of may_wait kept) old e → Took old e new
+    → GoesWithin (search_of may_wait kept) old new true
+first_taken may_wait kept old new e within turn took = λ all order first.
+    leads_by order (SettlesFrom (search_of may_wait kept)) old new e turn.own first took turn.there turn.hart_is
     (λ image here next stands there reached step.
     let asks = within refl image here stands in
+    let anyway = goes_anyway may_wait old e.rank turn.anyway image here stands in
     elim turn.first [
       | inl ready ↦
-          settles_ready (search_of kept) here.cluster next e (rank_of turn.own) there turn.hart_is step asks turn.request
+          settles_ready (search_of may_wait kept) here.cluster next e (rank_of turn.own) there turn.hart_is step anyway asks
+          turn.request
           turn.asks ready
       | inr may ↦
-          settles_uncontested (search_of kept) here.cluster next e (rank_of turn.own) there turn.hart_is step asks turn.request
+          settles_uncontested (search_of may_wait kept) here.cluster next e (rank_of turn.own) there turn.hart_is step anyway
+          asks turn.request
           turn.asks may
     ])
 
-pub met_taken : (kept : List AskedBy) (old new : Standing) (e : Step) → TellsWithin (search_of kept) old true
-    → IsMeetingTurn (search_of kept) old e → Took old e new
-    → GoesWithin (search_of kept) old new true
-met_taken kept old new e within turn took = λ all order first.
-    leads_by order (SettlesFrom (search_of kept)) old new e turn.own first took turn.there turn.hart_is
+pub met_taken : (may_wait : Bool) (kept : List AskedBy) (old new : Standing) (e : Step)
+    → TellsWithin (search_of may_wait kept) old true
+    → IsMeetingTurn (search_of may_wait kept) old e → Took old e new
+    → GoesWithin (search_of may_wait kept) old new true
+met_taken may_wait kept old new e within turn took = λ all order first.
+    leads_by order (SettlesFrom (search_of may_wait kept)) old new e turn.own first took turn.there turn.hart_is
     (λ image here next stands there reached step.
-    settles_met (search_of kept) here.cluster next e (rank_of turn.own) there turn.hart_is step
-    (within refl image here stands) turn.fills (turn.meets).waits (turn.meets).pass)
+    settles_met (search_of may_wait kept) here.cluster next e (rank_of turn.own) there turn.hart_is step
+    (goes_anyway may_wait old e.rank turn.anyway image here stands) (within refl image here stands) turn.fills
+    (turn.meets).waits (turn.meets).pass)
 
-pub told_met : (kept : List AskedBy) (standing : Standing) (rank : ℕ) (own : RankState) (waits : Bool) (d : Doing) (ask : Ask)
+pub told_met : (may_wait : Bool) (kept : List AskedBy) (standing : Standing) (rank : ℕ) (own : RankState) (waits : Bool)
+    (d : Doing) (ask : Ask)
     → slice_get standing.cluster.ranks.items rank ≡ Some own → waits ≡ waits_on d
     → d ≡ doing own.site (part_of (rank_of own) 0) → ask ≡ asked (rank_of own) 0
-    → (o : Option Step) → IsMeetingCall (search_of kept) rank waits ask o
-    → IsMeetingNext (search_of kept) standing o
-told_met kept standing rank own waits d ask there anew spelled asks None call = tt
-told_met kept standing rank own waits d ask there anew spelled asks (Some e) call = record {
+    → MayGoFirst may_wait standing rank
+    → (o : Option Step) → IsMeetingCall (search_of may_wait kept) rank waits ask o
+    → IsMeetingNext (search_of may_wait kept) standing o
+told_met may_wait kept standing rank own waits d ask there anew spelled asks anyway None call = tt
+told_met may_wait kept standing rank own waits d ask there anew spelled asks anyway (Some e) call = record {
   own = own;
   there = subst (λ r. slice_get standing.cluster.ranks.items r ≡ Some own) (sym call.0) there;
   hart_is = call.1;
@@ -265,6 +288,7 @@ told_met kept standing rank own waits d ask there anew spelled asks (Some e) cal
     pass = λ s p apart allowed.
         subst (λ a. MayMeet a p) asks (call.4 s p (λ same. apart (same ∙ sym call.0)) allowed);
   };
+  anyway = subst (MayGoFirst may_wait standing) (sym call.0) anyway;
 }
 
 -- ---- polls of what isn't there
@@ -290,10 +314,10 @@ vain_taken old new e turn took = λ all order kept first.
     (λ image here next stands there reached step.
     elim turn.kind_is [
       | inl none ↦
-          alike_in_vain (search_of kept) here.cluster next e (rank_of turn.own) there turn.hart_is step
+          alike_in_vain (search_of false kept) here.cluster next e (rank_of turn.own) there turn.hart_is step
           (same_law.itself here.cluster reached) turn.on none
       | inr missed ↦
-          alike_missed (search_of kept) here.cluster next e (rank_of turn.own) there turn.hart_is step
+          alike_missed (search_of false kept) here.cluster next e (rank_of turn.own) there turn.hart_is step
           (same_law.itself here.cluster reached) turn.on missed
     ])
 
@@ -304,15 +328,16 @@ vain_polled old new e turn false none = λ all. absurd (cc)
 
 -- ---- all of it
 
-pub went_first : (kept : List AskedBy) (old mid new : Standing) → GoesWithin (search_of kept) old mid true
-    → TellsWithin (search_of kept) mid true → GoesInVain mid new true
-    → (order : List ℕ) → IsFirstHart order → LeadsOn order old new (IsSettledThere (search_of kept))
-went_first kept old mid new goes within polled order first = λ image start here stands way reached.
+pub went_first : (may_wait : Bool) (kept : List AskedBy) (old mid new : Standing)
+    → GoesWithin (search_of may_wait kept) old mid true
+    → TellsWithin (search_of may_wait kept) mid true → GoesInVain mid new true
+    → (order : List ℕ) → IsFirstHart order → LeadsOn order old new (IsSettledThere (search_of may_wait kept))
+went_first may_wait kept old mid new goes within polled order first = λ image start here stands way reached.
     let v = goes refl order first image start here stands way reached in
     let w = polled refl order kept first image start v.0 v.1 v.2 reached in (
       w.0,
       w.1,
       w.2,
       λ node alike. v.3 node
-          (settled_there (search_of kept) (v.0).cluster (w.0).cluster (within refl image v.0 v.1) w.3 node alike),
+          (settled_there (search_of may_wait kept) (v.0).cluster (w.0).cluster (within refl image v.0 v.1) w.3 node alike),
     )

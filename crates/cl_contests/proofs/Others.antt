@@ -1,5 +1,6 @@
 -- A rank that can go on where no other rank can.
-use Rattle.std.proofs.Common.{◌≡◌, ◌∙◌, ℕ, ◌+◌, ◌≤◌, refl, sym, ap, subst, arith, inl, inr, true, false, List, length, Option, Some, None}
+use Rattle.std.proofs.Common.{◌≡◌, ◌∙◌, ℕ, ◌+◌, ◌≤◌, refl, sym, ap, subst, arith, inl, inr, Bool, true, false, List, length}
+use Rattle.std.proofs.Common.{Option, Some, None}
 use Rattle.std.specs.Prelude.{◌≢◌}
 use Rattle.std.specs.List.{slice_get}
 use Rattle.std.specs.Option.{is_some, option_map}
@@ -21,8 +22,8 @@ use Rattle.cl_contests.specs.declared.patterns.AskedBy.{AskedBy}
 use Rattle.cl_contests.specs.Going.{SettlesFrom}
 use Rattle.cl_contests.specs.Kept.{search_of}
 use Rattle.cl_contests.specs.Lone.{AreStillBelow, IsLoneIfSome, IsLoneNext, IsLoneRank, IsNextTurn, IsOther, IsStillIn, IsTurnIfSome}
-use Rattle.cl_contests.specs.Turns.{GoesWithin, IsMeetingNext, TellsWithin}
-use Rattle.cl_contests.proofs.Leading.{first_taken, leads_by, met_taken}
+use Rattle.cl_contests.specs.Turns.{GoesWithin, IsMeetingNext, MayGoFirst, TellsWithin}
+use Rattle.cl_contests.proofs.Leading.{first_taken, goes_anyway, leads_by, met_taken}
 use Rattle.cl_contests.proofs.Settling.{settles_lone}
 
 module _ (image : ImageParts) (old : Standing) (here : Node) (stands : StandsAt image old here) where
@@ -47,35 +48,39 @@ module _ (image : ImageParts) (old : Standing) (here : Node) (stands : StandsAt 
           subst (λ z. IsStill here.cluster s z 0) (same_Some (rank_of own) other same) (still_of s own (lone s own apart is))
 
 -- a turn that goes first, or of a rank that alone can go on
-pub next_taken : (kept : List AskedBy) (old new : Standing) (e : Step) → TellsWithin (search_of kept) old true
-    → IsNextTurn (search_of kept) old (Some e) → Took old e new
-    → GoesWithin (search_of kept) old new true
-next_taken kept old new e within (inl turn) took = first_taken kept old new e within turn took
-next_taken kept old new e within (inr (inl turn)) took = met_taken kept old new e within turn took
-next_taken kept old new e within (inr (inr turn)) took = λ all order first.
-    leads_by order (SettlesFrom (search_of kept)) old new e turn.own first took turn.there turn.hart_is
+pub next_taken : (may_wait : Bool) (kept : List AskedBy) (old new : Standing) (e : Step)
+    → TellsWithin (search_of may_wait kept) old true
+    → IsNextTurn (search_of may_wait kept) old (Some e) → Took old e new
+    → GoesWithin (search_of may_wait kept) old new true
+next_taken may_wait kept old new e within (inl turn) took = first_taken may_wait kept old new e within turn took
+next_taken may_wait kept old new e within (inr (inl turn)) took = met_taken may_wait kept old new e within turn took
+next_taken may_wait kept old new e within (inr (inr turn)) took = λ all order first.
+    leads_by order (SettlesFrom (search_of may_wait kept)) old new e turn.own first took turn.there turn.hart_is
     (λ image here next stands there reached step.
-    settles_lone (search_of kept) here.cluster next e (rank_of turn.own) there turn.hart_is step
-    (within refl image here stands) (subst CanGo (sym turn.asks) tt)
+    settles_lone (search_of may_wait kept) here.cluster next e (rank_of turn.own) there turn.hart_is step
+    (goes_anyway may_wait old e.rank turn.anyway image here stands) (within refl image here stands)
+    (subst CanGo (sym turn.asks) tt)
     (others_still image old here stands e.rank turn.lone))
 
 -- ---- what is told of it
 
-pub told_lone : (standing : Standing) (rank : ℕ) (own : RankState) (request : Request)
+pub told_lone : (may_wait : Bool) (standing : Standing) (rank : ℕ) (own : RankState) (request : Request)
     → slice_get standing.cluster.ranks.items rank ≡ Some own → asked (rank_of own) 0 ≡ Ask.Hub request
-    → IsLoneRank standing rank → (o : Option Step) → IsTurnIfSome rank o
-    → IsLoneNext standing o
-told_lone standing rank own request there asks lone None turn = tt
-told_lone standing rank own request there asks lone (Some e) turn = record {
+    → IsLoneRank standing rank → MayGoFirst may_wait standing rank → (o : Option Step) → IsTurnIfSome rank o
+    → IsLoneNext may_wait standing o
+told_lone may_wait standing rank own request there asks lone anyway None turn = tt
+told_lone may_wait standing rank own request there asks lone anyway (Some e) turn = record {
   own = own;
   there = subst (λ r. slice_get standing.cluster.ranks.items r ≡ Some own) (sym turn.0) there;
   hart_is = turn.1;
   request = request;
   asks = asks;
   lone = subst (IsLoneRank standing) (sym turn.0) lone;
+  anyway = subst (MayGoFirst may_wait standing) (sym turn.0) anyway;
 }
 
-pub lone_next : (search : Search) (standing : Standing) (o : Option Step) → IsLoneNext standing o → IsNextTurn search standing o
+pub lone_next : (search : Search) (standing : Standing) (o : Option Step) → IsLoneNext search.may_wait standing o
+    → IsNextTurn search standing o
 lone_next search standing None turn = tt
 lone_next search standing (Some e) turn = inr (inr turn)
 

@@ -32,7 +32,8 @@ use Rattle.cl_reduction_laws.proofs.Below.{call_of}
 use Rattle.cl_moves.specs.Moves.{IsMove, IsNext, Sees}
 use Rattle.cl_moves.specs.Sure.{IsReadyKind}
 use Rattle.cl_moves.proofs.Asking.{move}
-use Rattle.cl_reduction_laws.specs.Clusters.{CanGo, FindsBox, GoesFirst, IsStill, IsWithin, Search, alone, awake_cluster, collects, initialises, lone, meets, posts}
+use Rattle.cl_reduction_laws.specs.Clusters.{CanGo, FindsBox, GoesAnyway, GoesFirst, IsStill, IsWithin, Search, alone}
+use Rattle.cl_reduction_laws.specs.Clusters.{awake_cluster, collects, initialises, lone, meets, posts}
 use Rattle.cl_reduction_laws.specs.Patterns.{IsAllowed, MayMeet, Pattern, at_box, by_receiver, by_sender, pattern_of, pattern_of_ask, unlisted}
 use Rattle.cl_reduction_laws.specs.Settled.{AllWithin, Settles}
 use Rattle.cl_reduction_laws.proofs.Awake.{clusters_awake}
@@ -106,8 +107,9 @@ module _ (search : Search) (c next : Cluster) (e : Step) (x : Rank) (there : sli
   turn = record { step = e; rank = refl; hart = hart; leads = step_leads c next e step }
 
   -- what settles there settles here
-  pub settles_on : AllWithin search c → GoesFirst search c e.rank x → is_miss e.kind ≡ false → SettlesFrom search c next
-  settles_on within first found = λ node settled. (
+  pub settles_on : GoesAnyway search c e.rank → AllWithin search c → GoesFirst search c e.rank x → is_miss e.kind ≡ false
+      → SettlesFrom search c next
+  settles_on anyway within first found = λ node settled. (
     suc settled.0,
     (
       within,
@@ -116,6 +118,7 @@ module _ (search : Search) (c next : Cluster) (e : Step) (x : Rank) (there : sli
         x,
         there,
         first,
+        anyway,
         λ new goes.
             let g = goes.0 in
             let led = one_turn c next new e g.step x there found goes.1 step g.rank (g.hart ∙ sym hart) g.leads in
@@ -125,16 +128,17 @@ module _ (search : Search) (c next : Cluster) (e : Step) (x : Rank) (there : sli
   )
 
   -- where there is one turn alone it finds what it asks for
-  settles_only : AllWithin search c → GoesFirst search c e.rank x → IsOnly (asked x (search.harts e.rank))
+  settles_only : GoesAnyway search c e.rank → AllWithin search c → GoesFirst search c e.rank x
+      → IsOnly (asked x (search.harts e.rank))
       → SettlesFrom search c next
   unfolding turn
-  settles_only within first single =
-      settles_on within first (no_miss e.rank (search.harts e.rank) c next x there single turn)
+  settles_only anyway within first single =
+      settles_on anyway within first (no_miss e.rank (search.harts e.rank) c next x there single turn)
 
-  settles_call : AllWithin search c → GoesFirst search c e.rank x → (q : Request)
+  settles_call : GoesAnyway search c e.rank → AllWithin search c → GoesFirst search c e.rank x → (q : Request)
       → asked x (search.harts e.rank) ≡ Ask.Hub q
       → SettlesFrom search c next
-  settles_call within first q asks = settles_only within first (subst IsOnly (sym asks) tt)
+  settles_call anyway within first q asks = settles_only anyway within first (subst IsOnly (sym asks) tt)
 
   -- a turn that needs only its rank: each other rank asks what it asked
   within_own : IsBusy (asked x (search.harts e.rank)) → IsWithin search c e.rank
@@ -157,9 +161,9 @@ module _ (search : Search) (c next : Cluster) (e : Step) (x : Rank) (there : sli
         within r z (kept_rank e.rank (search.harts e.rank) r c next turn apart ∙ at)
   ]
 
-  pub settles_alone : IsBusy (asked x (search.harts e.rank)) → SettlesFrom search c next
-  settles_alone busy = λ node settled.
-      settles_only
+  pub settles_alone : GoesAnyway search c e.rank → IsBusy (asked x (search.harts e.rank)) → SettlesFrom search c next
+  settles_alone anyway busy = λ node settled.
+      settles_only anyway
       (within_back busy (settled_within search (λ z. z ≡ node) settled.0 next settled.1))
       (alone busy) (busy_only (asked x (search.harts e.rank)) busy) node settled
 
@@ -181,23 +185,24 @@ module _ (search : Search) (c next : Cluster) (e : Step) (x : Rank) (there : sli
   ready_told q asks (Kind.Hub reply) is ready = subst (IsReady q) (reply_told q asks reply is) ready
   ready_told q asks _ is ready = absurd ready
 
-  pub settles_ready : AllWithin search c → (q : Request) → asked x (search.harts e.rank) ≡ Ask.Hub q
+  pub settles_ready : GoesAnyway search c e.rank → AllWithin search c → (q : Request) → asked x (search.harts e.rank) ≡ Ask.Hub q
       → IsReadyKind q e.kind
       → SettlesFrom search c next
-  settles_ready within q asks ready =
-      settles_call within (collects q asks (ready_told q asks e.kind refl ready)) q asks
+  settles_ready anyway within q asks ready =
+      settles_call anyway within (collects q asks (ready_told q asks e.kind refl ready)) q asks
 
-  pub settles_uncontested : AllWithin search c → (q : Request) → asked x (search.harts e.rank) ≡ Ask.Hub q
+  pub settles_uncontested : GoesAnyway search c e.rank → AllWithin search c → (q : Request)
+      → asked x (search.harts e.rank) ≡ Ask.Hub q
       → IsUncontested search e.rank q
       → SettlesFrom search c next
-  settles_uncontested within q asks (can_post post pass) = settles_call within (posts q asks post pass) q asks
-  settles_uncontested within q asks (can_begin is pass) = settles_call within (initialises q asks is pass) q asks
+  settles_uncontested anyway within q asks (can_post post pass) = settles_call anyway within (posts q asks post pass) q asks
+  settles_uncontested anyway within q asks (can_begin is pass) = settles_call anyway within (initialises q asks is pass) q asks
 
-  pub settles_lone : AllWithin search c → CanGo (asked x (search.harts e.rank))
+  pub settles_lone : GoesAnyway search c e.rank → AllWithin search c → CanGo (asked x (search.harts e.rank))
       → ((s : ℕ) (other : Rank) → s ≢ e.rank → slice_get c.ranks s ≡ Some other → IsStill c s other (search.harts s))
       → SettlesFrom search c next
-  settles_lone within can still =
-      settles_only within (lone can still) (can_only (asked x (search.harts e.rank)) can)
+  settles_lone anyway within can still =
+      settles_only anyway within (lone can still) (can_only (asked x (search.harts e.rank)) can)
 
   -- ---- a turn at a box
 
@@ -251,11 +256,11 @@ module _ (search : Search) (c next : Cluster) (e : Step) (x : Rank) (there : sli
   not_missed Kind.Freed fills = refl
   not_missed _ fills = absurd fills
 
-  pub settles_met : AllWithin search c → IsFilling e.kind → IsMaking ask ⊎ (waits ≡ true)
+  pub settles_met : GoesAnyway search c e.rank → AllWithin search c → IsFilling e.kind → IsMaking ask ⊎ (waits ≡ true)
       → ((s : ℕ) (p : Pattern) → s ≢ e.rank → IsAllowed search.patterns s p → MayMeet ask p)
       → SettlesFrom search c next
-  settles_met within fills why pass =
-      settles_on within (meets (finds within e.kind fills step.4 why) pass) (not_missed e.kind fills)
+  settles_met anyway within fills why pass =
+      settles_on anyway within (meets (finds within e.kind fills step.4 why) pass) (not_missed e.kind fills)
 
   -- ---- a poll of what isn't there
 

@@ -39,6 +39,7 @@ patterns_of kept r p = list_any (λ (a : AskedBy). (a.rank == r) && is_pattern a
 abbrev pub wild_of : List AskedBy → Wild
 wild_of kept r comm = list_any (λ (a : AskedBy). (a.rank == r) && is_any_source a.pattern comm) kept
 
--- the first hart of each rank takes its turns
-abbrev pub search_of : List AskedBy → Search
-search_of kept = record { wild = wild_of kept; patterns = patterns_of kept; harts = λ r. 0 }
+-- the first hart of each rank takes its turns. Standard sends may wait for their receives, or don't
+abbrev pub search_of : Bool → List AskedBy → Search
+search_of may_wait kept =
+    record { wild = wild_of kept; patterns = patterns_of kept; harts = λ r. 0; may_wait = may_wait }

@@ -1,5 +1,5 @@
 -- A rank that can go on where no other rank can.
-use Rattle.std.specs.Prelude.{ℕ, ◌<◌, ◌≡◌, ◌≢◌, ◌⊎◌, true, slice_get, Option, Some, None}
+use Rattle.std.specs.Prelude.{ℕ, ◌<◌, ◌≡◌, ◌≢◌, ◌⊎◌, Bool, true, slice_get, Option, Some, None}
 use Rattle.mp_types.specs.declared.requests.Request.{Request}
 use Rattle.cl_state.specs.declared.asking.Ask.{Ask}
 use Rattle.cl_state.specs.declared.state.RankState.{RankState}
@@ -13,7 +13,7 @@ use Rattle.cl_order_laws.specs.Closed.{IsInVain}
 use Rattle.cl_replay.specs.States.{ClusterStandsFor}
 use Rattle.cl_moves.specs.declared.standing.Standing.{Standing}
 use Rattle.cl_reduction_laws.specs.Clusters.{Search}
-use Rattle.cl_contests.specs.Turns.{IsFirstTurn, IsMeetingTurn}
+use Rattle.cl_contests.specs.Turns.{IsFirstTurn, IsMeetingTurn, MayGoFirst}
 
 -- the rank's first hart is stopped, or makes a call anew, in vain
 abbrev pub IsStillIn : Standing → ℕ → RankState → Type 0
@@ -47,21 +47,22 @@ abbrev pub IsTurnIfSome : ℕ → Option Step → Type 0
 IsTurnIfSome rank None = Unit {0}
 IsTurnIfSome rank (Some e) = (e.rank ≡ rank) × (e.hart ≡ 0)
 
--- the next turn of the rank, a call
-pub record IsLoneTurn (standing : Standing) (e : Step) : Type 0 where
+-- the next turn of the rank, which may go first, a call
+pub record IsLoneTurn (may_wait : Bool) (standing : Standing) (e : Step) : Type 0 where
   pub own : RankState
   pub there : slice_get standing.cluster.ranks.items e.rank ≡ Some own
   pub hart_is : e.hart ≡ 0
   pub request : Request
   pub asks : asked (rank_of own) 0 ≡ Ask.Hub request
   pub lone : IsLoneRank standing e.rank
+  pub anyway : MayGoFirst may_wait standing e.rank
 
-abbrev pub IsLoneNext : Standing → Option Step → Type 0
-IsLoneNext standing None = Unit {0}
-IsLoneNext standing (Some e) = IsLoneTurn standing e
+abbrev pub IsLoneNext : Bool → Standing → Option Step → Type 0
+IsLoneNext may_wait standing None = Unit {0}
+IsLoneNext may_wait standing (Some e) = IsLoneTurn may_wait standing e
 
 -- the next turn of a rank that goes first
 abbrev pub IsNextTurn : Search → Standing → Option Step → Type 0
 IsNextTurn search standing None = Unit {0}
 IsNextTurn search standing (Some e) =
-    IsFirstTurn search standing e ⊎ (IsMeetingTurn search standing e ⊎ IsLoneTurn standing e)
+    IsFirstTurn search standing e ⊎ (IsMeetingTurn search standing e ⊎ IsLoneTurn search.may_wait standing e)

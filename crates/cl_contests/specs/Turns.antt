@@ -1,5 +1,5 @@
 -- Single turns of first harts, and where several of them lead.
-use Rattle.std.specs.Prelude.{ℕ, ◌+◌, ◌≡◌, ◌≢◌, ◌<◌, ◌^◌, ◌⊎◌, Bool, true, List, length, slice_get, Option, Some, None}
+use Rattle.std.specs.Prelude.{ℕ, ◌+◌, ◌≡◌, ◌≢◌, ◌<◌, ◌^◌, ◌⊎◌, Bool, true, false, List, length, slice_get, Option, Some, None}
 use Rattle.rv_image_types.specs.declared.images.ImageParts.{ImageParts}
 use Rattle.mp_types.specs.declared.replies.Reply.TheVariants.{NotYet}
 use Rattle.mp_types.specs.declared.requests.Request.{Request}
@@ -18,12 +18,17 @@ use Rattle.cl_reduction_laws.specs.Below.{AreAlike, AskWithin}
 use Rattle.cl_moves.specs.Standing.{StandsAt}
 use Rattle.cl_moves.specs.Sure.{IsReadyKind}
 use Rattle.cl_moves.specs.declared.standing.Standing.{Standing}
+use Rattle.cl_rests.specs.Telling.{IsRestAt}
 use Rattle.cl_reduction_laws.specs.Clusters.{Search, awake_cluster}
 use Rattle.cl_reduction_laws.specs.Patterns.{InitMayPass, IsAllowed, IsInitialisation, MayMeet, MayPass, Pattern, pattern_of}
 use Rattle.cl_reduction_laws.specs.Settled.{AllWithin}
 use Rattle.cl_contests.specs.declared.patterns.AskedBy.{AskedBy}
 use Rattle.cl_contests.specs.Going.{IsFirstHart, LeadsOn, SettlesFrom}
 use Rattle.cl_contests.specs.Kept.{search_of, wild_of}
+
+-- the rank doesn't rest behind a standard send, if those may wait for their receives
+abbrev pub MayGoFirst : Bool → Standing → ℕ → Type 0
+MayGoFirst may_wait standing r = may_wait ≡ true → IsRestAt standing r false
 
 -- ---- turns that need only their rank
 
@@ -37,8 +42,8 @@ abbrev pub IsBusyIfSome : Ask → Option Bare → Type 0
 IsBusyIfSome ask None = Unit {0}
 IsBusyIfSome ask (Some kind) = IsBusyKind ask (kind_of_bare kind)
 
--- the next turn of a rank, which needs only the rank and goes on
-pub record IsBusyTurn (standing : Standing) (e : Step) : Type 0 where
+-- the next turn of a rank that may go first, which needs only the rank and goes on
+pub record IsBusyTurn (may_wait : Bool) (standing : Standing) (e : Step) : Type 0 where
   pub own : RankState
   pub there : slice_get standing.cluster.ranks.items e.rank ≡ Some own
   pub hart_is : e.hart ≡ 0
@@ -46,15 +51,17 @@ pub record IsBusyTurn (standing : Standing) (e : Step) : Type 0 where
   pub stamp_is : e.stamp ≡ own.clock + 1
   pub low : e.stamp < 2 ^ 62
   pub busy : IsBusyKind (asked (rank_of own) 0) e.kind
+  pub anyway : MayGoFirst may_wait standing e.rank
 
-abbrev pub IsBusyNext : Standing → Option Step → Type 0
-IsBusyNext standing None = Unit {0}
-IsBusyNext standing (Some e) = IsBusyTurn standing e
+abbrev pub IsBusyNext : Bool → Standing → Option Step → Type 0
+IsBusyNext may_wait standing None = Unit {0}
+IsBusyNext may_wait standing (Some e) = IsBusyTurn may_wait standing e
 
--- by each order that names the first hart alone, and in each search
-abbrev pub GoesAlone : Standing → Standing → Type 0
-GoesAlone old new =
-    (order : List ℕ) (kept : List AskedBy) → IsFirstHart order → LeadsOn order old new (SettlesFrom (search_of kept))
+-- by each order that names the first hart alone, and in each search where sends may wait or don't
+abbrev pub GoesAlone : Bool → Standing → Standing → Type 0
+GoesAlone may_wait old new =
+    (order : List ℕ) (kept : List AskedBy) → IsFirstHart order
+    → LeadsOn order old new (SettlesFrom (search_of may_wait kept))
 
 -- ---- what ranks ask
 
@@ -78,7 +85,7 @@ pub data IsUncontested (search : Search) (r : ℕ) (q : Request) : Type 0 where
       → ((s : ℕ) (p : Pattern) → s ≢ r → IsAllowed search.patterns s p → InitMayPass r q s p)
       → IsUncontested search r q
 
--- the next turn of a rank, a call for what is there, or one that nobody contests
+-- the next turn of a rank that may go first, a call for what is there, or one that nobody contests
 pub record IsFirstTurn (search : Search) (standing : Standing) (e : Step) : Type 0 where
   pub own : RankState
   pub there : slice_get standing.cluster.ranks.items e.rank ≡ Some own
@@ -86,6 +93,7 @@ pub record IsFirstTurn (search : Search) (standing : Standing) (e : Step) : Type
   pub request : Request
   pub asks : asked (rank_of own) 0 ≡ Ask.Hub request
   pub first : IsReadyKind request e.kind ⊎ IsUncontested search e.rank request
+  pub anyway : MayGoFirst search.may_wait standing e.rank
 
 abbrev pub IsFirstNext : Search → Standing → Option Step → Type 0
 IsFirstNext search standing None = Unit {0}
@@ -122,13 +130,14 @@ pub record IsMeeting (search : Search) (r : ℕ) (own : RankState) : Type 0 wher
   pub waits : IsMaking (asked (rank_of own) 0) ⊎ (waits_on (doing own.site (part_of (rank_of own) 0)) ≡ true)
   pub pass : (s : ℕ) (p : Pattern) → s ≢ r → IsAllowed search.patterns s p → MayMeet (asked (rank_of own) 0) p
 
--- the next turn of such a rank, which finds what it asks for
+-- the next turn of such a rank that may go first, which finds what it asks for
 pub record IsMeetingTurn (search : Search) (standing : Standing) (e : Step) : Type 0 where
   pub own : RankState
   pub there : slice_get standing.cluster.ranks.items e.rank ≡ Some own
   pub hart_is : e.hart ≡ 0
   pub fills : IsFilling e.kind
   pub meets : IsMeeting search e.rank own
+  pub anyway : MayGoFirst search.may_wait standing e.rank
 
 -- of a turn that asks this, by what it was found to be
 abbrev pub IsMeetingCall : Search → ℕ → Bool → Ask → Option Step → Type 0

@@ -3,6 +3,7 @@
 ghost use Rattle.std.specs.Prelude.{IfOk, OnOk};
 ghost use Rattle.cl_contests.specs.Turns.{GoesAlone, IsBusyIfSome, IsBusyNext};
 
+use crate::patterns::Patterns;
 use cl_journal::CLOCK_MAX;
 use cl_machine::Step;
 use cl_moves::{MoveFault, Standing};
@@ -21,16 +22,16 @@ fn busy_kind(ask: &Ask) -> Option<Bare>
     }
 }
 
-/// The next turn of a rank, if it needs only the rank and goes on.
-fn next_busy(standing: &Standing, rank: u8) -> Result<Option<Step>, MoveFault>
-    ensures { IfOk result (IsBusyNext standing.now) }
+/// The next turn of a rank that may go first, if it needs only the rank and goes on.
+fn next_busy(standing: &Standing, rank: u8, patterns: &Patterns) -> Result<Option<Step>, MoveFault>
+    ensures { IfOk result (IsBusyNext patterns.now.may_wait standing.now) }
 {
     let place = usize::from(rank);
     if place >= standing.cluster.ranks.len() {
         return Ok(None);
     }
     let own = &standing.cluster.ranks[place];
-    if own.harts.len() == 0 {
+    if own.harts.len() == 0 || patterns.hold_back(standing, rank) {
         return Ok(None);
     }
     let Some(kind) = busy_kind(&own.ask(0)?) else {
@@ -45,11 +46,16 @@ fn next_busy(standing: &Standing, rank: u8) -> Result<Option<Step>, MoveFault>
 /// Takes such turns of a rank, at most so many. Answers whether it took fewer.
 ///
 /// Refusals: Clock, Memory. Then the standing may be anything.
-fn go_alone(standing: &mut Standing, rank: u8, most: u64) -> Result<bool, MoveFault>
-    ensures { OnOk result (GoesAlone standing.old standing.new) }
+fn go_alone(
+    standing: &mut Standing,
+    rank: u8,
+    most: u64,
+    patterns: &Patterns,
+) -> Result<bool, MoveFault>
+    ensures { OnOk result (GoesAlone patterns.now.may_wait standing.old standing.new) }
 {
     for _turn in 0..most {
-        let Some(turn) = next_busy(standing, rank)? else {
+        let Some(turn) = next_busy(standing, rank, patterns)? else {
             return Ok(true);
         };
         if !standing.take(turn)? {
@@ -62,12 +68,16 @@ fn go_alone(standing: &mut Standing, rank: u8, most: u64) -> Result<bool, MoveFa
 /// The same of each rank. Answers the first one that would take more, if there is one.
 ///
 /// Refusals: Clock, Memory. Then the standing may be anything.
-fn each_alone(standing: &mut Standing, most: u64) -> Result<Option<u8>, MoveFault>
-    ensures { OnOk result (GoesAlone standing.old standing.new) }
+fn each_alone(
+    standing: &mut Standing,
+    most: u64,
+    patterns: &Patterns,
+) -> Result<Option<u8>, MoveFault>
+    ensures { OnOk result (GoesAlone patterns.now.may_wait standing.old standing.new) }
 {
     let mut long = None;
     for rank in 0..RANKS_MAX {
-        let fewer = go_alone(standing, rank, most)?;
+        let fewer = go_alone(standing, rank, most, patterns)?;
         if !fewer && long.is_none() {
             long = Some(rank);
         }
@@ -82,12 +92,13 @@ pub(crate) fn all_alone(
     standing: &mut Standing,
     whose: Option<u8>,
     most: u64,
+    patterns: &Patterns,
 ) -> Result<Option<u8>, MoveFault>
-    ensures { OnOk result (GoesAlone standing.old standing.new) }
+    ensures { OnOk result (GoesAlone patterns.now.may_wait standing.old standing.new) }
 {
     let Some(rank) = whose else {
-        return each_alone(standing, most);
+        return each_alone(standing, most, patterns);
     };
-    let fewer = go_alone(standing, rank, most)?;
+    let fewer = go_alone(standing, rank, most, patterns)?;
     Ok(if fewer { None } else { Some(rank) })
 }

@@ -38,7 +38,8 @@ fn asks_within(
     patterns: &Patterns,
     missing: &mut Patterns,
 ) -> Result<bool, MoveFault>
-    ensures { IfOk result (λ within. within ≡ true → AsksWithin (search_of patterns.now.kept.items) rank own.now) }
+    ensures { IfOk result (λ within. within ≡ true
+        → AsksWithin (search_of patterns.now.may_wait patterns.now.kept.items) rank own.now) }
 {
     if own.harts.len() == 0 {
         return Ok(false);
@@ -59,7 +60,7 @@ fn all_within(
     patterns: &Patterns,
     missing: &mut Patterns,
 ) -> Result<bool, MoveFault>
-    ensures { IfOk result (TellsWithin (search_of patterns.now.kept.items) standing.now) }
+    ensures { IfOk result (TellsWithin (search_of patterns.now.may_wait patterns.now.kept.items) standing.now) }
 {
     // an image has at most 8 ranks
     let count = standing.cluster.ranks.len();
@@ -84,7 +85,7 @@ fn first_call(
     request: &Request,
     patterns: &Patterns,
 ) -> Result<Option<Step>, MoveFault>
-    ensures { IfOk result (IsFirstCall (search_of patterns.now.kept.items) rank request.now) }
+    ensures { IfOk result (IsFirstCall (search_of patterns.now.may_wait patterns.now.kept.items) rank request.now) }
 {
     let free = patterns.is_uncontested(rank, request);
     if !free && (!is_look(request) || standing.cluster.hub.asks_in_vain(rank, request)) {
@@ -101,21 +102,21 @@ fn first_call(
     }
 }
 
-/// The next turn of a rank, if it is such a call.
+/// The next turn of a rank that may go first, if it is such a call.
 fn first_of(
     alloc: Global,
     standing: &Standing,
     rank: u8,
     patterns: &Patterns,
 ) -> Result<Option<Step>, MoveFault>
-    ensures { IfOk result (IsFirstNext (search_of patterns.now.kept.items) standing.now) }
+    ensures { IfOk result (IsFirstNext (search_of patterns.now.may_wait patterns.now.kept.items) standing.now) }
 {
     let place = usize::from(rank);
     if place >= standing.cluster.ranks.len() {
         return Ok(None);
     }
     let own = &standing.cluster.ranks[place];
-    if own.harts.len() == 0 {
+    if own.harts.len() == 0 || patterns.hold_back(standing, rank) {
         return Ok(None);
     }
     match own.ask(0)? {
@@ -134,7 +135,7 @@ fn meeting_of(
     ask: &Ask,
     patterns: &Patterns,
 ) -> Result<Option<Step>, MoveFault>
-    ensures { IfOk result (IsMeetingCall (search_of patterns.now.kept.items) rank waits ask.now) }
+    ensures { IfOk result (IsMeetingCall (search_of patterns.now.may_wait patterns.now.kept.items) rank waits ask.now) }
 {
     let may = match ask {
         Ask::Ready { .. } => true,
@@ -155,21 +156,21 @@ fn meeting_of(
     }
 }
 
-/// The next turn of a rank, if it is such a turn at a box.
+/// The next turn of a rank that may go first, if it is such a turn at a box.
 fn next_meeting(
     alloc: Global,
     standing: &Standing,
     rank: u8,
     patterns: &Patterns,
 ) -> Result<Option<Step>, MoveFault>
-    ensures { IfOk result (IsMeetingNext (search_of patterns.now.kept.items) standing.now) }
+    ensures { IfOk result (IsMeetingNext (search_of patterns.now.may_wait patterns.now.kept.items) standing.now) }
 {
     let place = usize::from(rank);
     if place >= standing.cluster.ranks.len() {
         return Ok(None);
     }
     let own = &standing.cluster.ranks[place];
-    if own.harts.len() == 0 {
+    if own.harts.len() == 0 || patterns.hold_back(standing, rank) {
         return Ok(None);
     }
     let doing = own.next(0);
@@ -184,7 +185,7 @@ fn first_meeting(
     standing: &Standing,
     patterns: &Patterns,
 ) -> Result<Option<Step>, MoveFault>
-    ensures { IfOk result (IsMeetingNext (search_of patterns.now.kept.items) standing.now) }
+    ensures { IfOk result (IsMeetingNext (search_of patterns.now.may_wait patterns.now.kept.items) standing.now) }
 {
     for rank in 0..RANKS_MAX {
         if let Some(turn) = next_meeting(alloc, standing, rank, patterns)? {
@@ -200,7 +201,7 @@ fn next_first(
     standing: &Standing,
     patterns: &Patterns,
 ) -> Result<Option<Step>, MoveFault>
-    ensures { IfOk result (IsFirstNext (search_of patterns.now.kept.items) standing.now) }
+    ensures { IfOk result (IsFirstNext (search_of patterns.now.may_wait patterns.now.kept.items) standing.now) }
 {
     for rank in 0..RANKS_MAX {
         if let Some(turn) = first_of(alloc, standing, rank, patterns)? {
@@ -216,7 +217,7 @@ fn next_turn(
     standing: &Standing,
     patterns: &Patterns,
 ) -> Result<Option<Step>, MoveFault>
-    ensures { IfOk result (IsNextTurn (search_of patterns.now.kept.items) standing.now) }
+    ensures { IfOk result (IsNextTurn (search_of patterns.now.may_wait patterns.now.kept.items) standing.now) }
 {
     if let Some(turn) = next_first(alloc, standing, patterns)? {
         return Ok(Some(turn));
@@ -224,7 +225,7 @@ fn next_turn(
     if let Some(turn) = first_meeting(alloc, standing, patterns)? {
         return Ok(Some(turn));
     }
-    next_lone(alloc, standing)
+    next_lone(alloc, standing, patterns)
 }
 
 /// Whether a rank would take more turns by itself, or there were more looks in a row than are allowed.
@@ -241,7 +242,8 @@ fn looks_with(looks: u64, turn: &Step) -> u64 {
 }
 
 /// Takes turns that need only their rank, of this rank or of each, and then one that goes first, over and over, at most so
-/// often, and no more looks in a row than are allowed. Behind the turn of a rank only this rank may take turns by itself.
+/// often, and no more looks in a row than are allowed. Behind the turn of a rank only this rank may take turns by itself,
+/// unless sends may wait.
 ///
 /// Refusals: Clock, Memory. Then the standing may be anything.
 fn go_on(
@@ -252,12 +254,15 @@ fn go_on(
     patterns: &Patterns,
     missing: &mut Patterns,
 ) -> Result<Went, MoveFault>
-    ensures { IfOk result (λ went. GoesWithin (search_of patterns.now.kept.items) standing.old standing.new went.within) }
+    ensures { IfOk result (λ went. GoesWithin (search_of patterns.now.may_wait patterns.now.kept.items) standing.old
+        standing.new went.within) }
 {
     let mut whose = whose;
     let mut looks = 0;
     for _round in 0..most {
-        let long = all_alone(standing, whose, most)?;
+        // a rank that rested goes on once the turn of another rank received its message
+        let left = if patterns.may_wait { None } else { whose };
+        let long = all_alone(standing, left, most, patterns)?;
         if !all_within(standing, patterns, missing)? {
             return Ok(Went {
                 within: false,
@@ -298,7 +303,7 @@ pub fn go_first(
     patterns: &Patterns,
     missing: &mut Patterns,
 ) -> Result<Went, MoveFault>
-    ensures { IfOk result (GoesFirstOn (search_of patterns.now.kept.items) standing.old standing.new) }
+    ensures { IfOk result (GoesFirstOn (search_of patterns.now.may_wait patterns.now.kept.items) standing.old standing.new) }
 {
     let went = go_on(alloc, standing, most, whose, patterns, missing)?;
     if !went.within {

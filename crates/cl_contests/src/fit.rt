@@ -91,7 +91,7 @@ fn is_fit_rank(
 ) -> Result<bool, AllocError>
     ensures { IfOk result (λ fit. IsTrue fit → (image : ImageParts) (cluster : Cluster)
         → ClusterStandsFor image state.now cluster
-        → IsFitRank (search_of patterns.now.kept.items) cluster rank (rank_of own.now)) }
+        → IsFitRank (search_of patterns.now.may_wait patterns.now.kept.items) cluster rank (rank_of own.now)) }
 {
     if own.harts.len() == 0 {
         return Ok(false);
@@ -111,7 +111,7 @@ fn is_fit_rank(
 ///
 /// Refusals: Memory.
 pub fn is_fit(standing: &Standing, patterns: &Patterns) -> Result<bool, MoveFault>
-    ensures { IfOk result (TellsFit (search_of patterns.now.kept.items) standing.now) }
+    ensures { IfOk result (TellsFit (search_of patterns.now.may_wait patterns.now.kept.items) standing.now) }
 {
     let state = &standing.cluster;
     let count = state.ranks.len();

@@ -4,6 +4,7 @@ ghost use Rattle.std.specs.Prelude.{◌≡◌, IfOk, true};
 ghost use Rattle.cl_contests.specs.Lone.{IsLoneIfSome, IsLoneNext, IsStillIn, IsTurnIfSome};
 
 use crate::asking::is_made_anew;
+use crate::patterns::Patterns;
 use cl_machine::Step;
 use cl_moves::{MoveFault, Standing, is_in_vain, turns_of};
 use cl_state::{Ask, RankState};
@@ -70,10 +71,14 @@ fn lone_call(
     Ok(Some(turn))
 }
 
-/// The call of the only rank that isn't still, if it makes one. One for what isn't there is left out: a rank that goes on
-/// without it could ask for it over and over.
-pub(crate) fn next_lone(alloc: Global, standing: &Standing) -> Result<Option<Step>, MoveFault>
-    ensures { IfOk result (IsLoneNext standing.now) }
+/// The call of the only rank that isn't still, if it makes one and may go first. One for what isn't there is left out: a
+/// rank that goes on without it could ask for it over and over.
+pub(crate) fn next_lone(
+    alloc: Global,
+    standing: &Standing,
+    patterns: &Patterns,
+) -> Result<Option<Step>, MoveFault>
+    ensures { IfOk result (IsLoneNext patterns.now.may_wait standing.now) }
 {
     let Some(rank) = lone_rank(standing)? else {
         return Ok(None);
@@ -83,7 +88,7 @@ pub(crate) fn next_lone(alloc: Global, standing: &Standing) -> Result<Option<Ste
         return Ok(None);
     }
     let own = &standing.cluster.ranks[place];
-    if own.harts.len() == 0 {
+    if own.harts.len() == 0 || patterns.hold_back(standing, rank) {
         return Ok(None);
     }
     match own.ask(0)? {

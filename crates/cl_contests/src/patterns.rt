@@ -14,8 +14,10 @@ ghost use Rattle.cl_reduction_laws.specs.Clusters.{IsAtBox};
 ghost use Rattle.cl_contests.specs.Kept.{is_same_bool, patterns_of, search_of, wild_of};
 ghost use Rattle.cl_contests.specs.Passing.{InitMayPassKept, IsOnSide, Keeps, MayMeetKept, MayPassKept, has_pattern};
 ghost use Rattle.cl_contests.specs.Passing.{is_wanted as is_wanted_of};
-ghost use Rattle.cl_contests.specs.Turns.{IsUncontested};
+ghost use Rattle.cl_contests.specs.Turns.{IsUncontested, MayGoFirst};
 
+use cl_moves::Standing;
+use cl_rests::rests;
 use cl_state::Ask;
 use mp_types::Request;
 use rv_image_types::Link;
@@ -247,15 +249,26 @@ fn is_on_side(links: &[Link], asked: &AskedBy) -> bool
 #[derive(Drop)]
 pub struct Patterns {
     pub kept: Vec<AskedBy>,
+    /// Whether standard sends may wait for their receives, so that a rank that rests behind one doesn't go first.
+    pub may_wait: bool,
 }
 
 impl Patterns {
-    /// No patterns.
+    /// No patterns, where no standard send waits.
     pub fn new(alloc: Global) -> Patterns
         ensures { result.kept.items ≡ [] }
     {
+        Patterns::with_waiting(alloc, false)
+    }
+
+    /// No patterns, where standard sends may wait for their receives if `may_wait` is true.
+    pub fn with_waiting(alloc: Global, may_wait: bool) -> Patterns
+        ensures none { result.kept.items ≡ [] }
+        ensures waits { result.may_wait ≡ may_wait }
+    {
         Patterns {
             kept: Vec::new(alloc),
+            may_wait,
         }
     }
 
@@ -264,6 +277,13 @@ impl Patterns {
         ensures { IsTrue result ↔ (vec_len self.now.kept ≡ 0) }
     {
         self.kept.is_empty()
+    }
+
+    /// Whether the rank may not go first: standard sends may wait for their receives, and it rests behind one.
+    pub(crate) fn hold_back(&self, standing: &Standing, rank: u8) -> bool
+        ensures { result ≡ false → MayGoFirst self.now.may_wait standing.now rank }
+    {
+        self.may_wait && rests(standing, rank)
     }
 
     /// Whether this is one of the rank's patterns.
@@ -461,7 +481,7 @@ impl Patterns {
 
     /// Whether the call is a send, a receive or an initialisation that nobody contests.
     pub(crate) fn is_uncontested(&self, rank: u8, request: &Request) -> bool
-        ensures { IsTrue result → IsUncontested (search_of self.now.kept.items) rank request.now }
+        ensures { IsTrue result → IsUncontested (search_of self.now.may_wait self.now.kept.items) rank request.now }
     {
         self.may_pass(rank, request) || self.may_initialise(rank, request)
     }
@@ -496,6 +516,7 @@ impl Patterns {
     fn keep(&mut self, rank: u8, pattern: Pattern) -> Result<(), AllocError>
         ensures has { OnOk result (has_pattern self.new.kept.items rank pattern ≡ true) }
         ensures keeps { OnOk result (Keeps self.old.kept.items self.new.kept.items) }
+        ensures still { OnOk result (self.new.may_wait ≡ self.old.may_wait) }
     {
         if self.has(rank, pattern) {
             return Ok(());
@@ -567,6 +588,7 @@ impl Patterns {
     ) -> Result<(), AllocError>
         ensures wild { OnOk result (AsksFrom (wild_of self.new.kept.items) rank comm source) }
         ensures keeps { OnOk result (Keeps self.old.kept.items self.new.kept.items) }
+        ensures still { OnOk result (self.new.may_wait ≡ self.old.may_wait) }
     {
         match source {
             Some(_) => Ok(()),
@@ -670,6 +692,7 @@ impl Patterns {
     pub fn add_all(&mut self, others: &Patterns) -> Result<(), AllocError>
         ensures adds { OnOk result (Keeps others.now.kept.items self.new.kept.items) }
         ensures keeps { OnOk result (Keeps self.old.kept.items self.new.kept.items) }
+        ensures still { OnOk result (self.new.may_wait ≡ self.old.may_wait) }
     {
         for asked in others.kept.as_slice() {
             self.keep(asked.rank, asked.pattern)?;

@@ -68,6 +68,7 @@ fn add_wait(patterns: &mut Patterns, line: &Line) -> Result<(), AllocError>
     ensures waits { OnOk result ((a : Selected) → line.now ≡ record { post = Receive a; partner = None }
         → AsksFrom (wild_of patterns.new.kept.items) a.rank a.comm a.source) }
     ensures keeps { OnOk result (Keeps patterns.old.kept.items patterns.new.kept.items) }
+    ensures still { OnOk result (patterns.new.may_wait ≡ patterns.old.may_wait) }
 {
     match (line.post, line.partner) {
         (Post::Receive(asked), None) => patterns.add_source(asked.rank, asked.comm, asked.source),
@@ -79,6 +80,7 @@ fn add_wait(patterns: &mut Patterns, line: &Line) -> Result<(), AllocError>
 pub fn add_waits(patterns: &mut Patterns, whole: &WholeHub) -> Result<(), AllocError>
     ensures waits { OnOk result (WaitsWithin (wild_of patterns.new.kept.items) whole.now) }
     ensures keeps { OnOk result (Keeps patterns.old.kept.items patterns.new.kept.items) }
+    ensures still { OnOk result (patterns.new.may_wait ≡ patterns.old.may_wait) }
 {
     for line in whole.board().lines() {
         add_wait(patterns, line)?;

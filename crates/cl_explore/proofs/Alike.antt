@@ -1,5 +1,5 @@
 -- Clusters that are alike, from what was compared of them.
-use Rattle.std.specs.Prelude.{ℕ, suc, ◌+◌, ◌/◌, ◌%◌, ◌<◌, ◌≤◌, ◌≡◌, List, [], ◌∷◌, length, map, slice_get, Option, Some, None, IfSome, true}
+use Rattle.std.specs.Prelude.{ℕ, suc, ◌+◌, ◌/◌, ◌%◌, ◌<◌, ◌≤◌, ◌≡◌, List, [], ◌∷◌, length, map, slice_get, Option, Some, None, IfSome, Bool, true}
 use Rattle.std.proofs.Common.{refl, sym, ap, ◌∙◌, subst, arith, inl, inr}
 use Rattle.std.proofs.lemmas.Bool.{cases_Bool, cases_eq}
 use Rattle.std.proofs.lemmas.Option.{slice_get_within}
@@ -228,14 +228,17 @@ named_in at_once names a b is = record { names = is.names; listed = is.listed; a
 named_in plainly names a b is = record { names = is.names; listed = is.listed; alike = is.alike }
 
 -- in each search of some kind
-pub if_named : {A : Type 0} (how : A → How) (a b : HubView) (found : Option (List ℕ))
-    → IfSome found (λ names. AreAlikeBy names a b) → IfSome found (λ names. (its : A) → AreNamedIn (how its) names a b)
+pub if_named : {A B : Type 0} (how : A → B → How) (a b : HubView) (found : Option (List ℕ))
+    → IfSome found (λ names. AreAlikeBy names a b)
+    → IfSome found (λ names. (its : A) (other : B) → AreNamedIn (how its other) names a b)
 if_named how a b None is = tt
-if_named how a b (Some names) is = λ its. named_in (how its) names a b is
+if_named how a b (Some names) is = λ its other. named_in (how its other) names a b is
 
 -- where turns go first, posts that are over may be any that are
 pub if_live_named : (a b : HubView) (found : Option (List ℕ)) → IfSome found (λ names. AreLiveAlikeBy names a b)
-    → IfSome found (λ names. (asked : List AskedBy) → AreNamedIn (how_of ways.First asked) names a b)
+    → IfSome found (λ names. (may_wait : Bool) (asked : List AskedBy)
+    → AreNamedIn (how_of ways.First may_wait asked) names a b)
 if_live_named a b None is = tt
 if_live_named a b (Some names) is =
-    λ asked. record { names = is.names; listed = is.listed; alike = is.alike (search_of asked).wild }
+    λ may_wait asked.
+    record { names = is.names; listed = is.listed; alike = is.alike (search_of may_wait asked).wild }

@@ -118,7 +118,7 @@ settled_into contest Is Then into (suc n) c settled = (
   settled.0,
   elim settled.1 [
     | inl here ↦ inl (here.0, into here.0 here.1, here.2)
-    | inr on ↦ inr (on.0, on.1, on.2, on.3, λ new turn. settled_into contest Is Then into n new (on.4 new turn))
+    | inr on ↦ inr (on.0, on.1, on.2, on.3, on.4, λ new turn. settled_into contest Is Then into n new (on.5 new turn))
   ],
 )
 

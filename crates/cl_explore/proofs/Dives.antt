@@ -99,14 +99,24 @@ dives how order old new from number k live there at is ends adds same = (
 
 -- ---- what is told then
 
+abbrev pub told : List KeptNode → List ℕ → List Company → List Lead → ℕ → Bool → Findings
+told kept ends companies leads left may_wait = record {
+  kept = kept;
+  ends = ends;
+  companies = companies;
+  leads = leads;
+  left = left;
+  may_wait = may_wait;
+}
+
 module _ (image : ImageParts) (order : List ℕ) (start : Node) (kept more : List KeptNode) (last : KeptNode)
-    (ends : List ℕ) (companies : List Company) (leads : List Lead) (left number : ℕ)
+    (ends : List ℕ) (companies : List Company) (leads : List Lead) (left number : ℕ) (may_wait : Bool)
     (longer : more ≡ kept ++ last ∷ []) where
   abbrev before : Findings
-  before = record { kept = kept; ends = ends; companies = companies; leads = leads; left = left }
+  before = told kept ends companies leads left may_wait
 
   abbrev after : Findings
-  after = record { kept = more; ends = ends ++ number ∷ []; companies = companies; leads = leads; left = left + 1 }
+  after = told more (ends ++ number ∷ []) companies leads (left + 1) may_wait
 
   module _ (e : ExploredFrom image order start before) (nodes : List Node) (grows : Grows e.nodes nodes)
       (are : AreNodes image order more nodes) (is_end : IsEndAt order nodes number) where
@@ -152,6 +162,8 @@ module _ (image : ImageParts) (order : List ℕ) (start : Node) (kept more : Lis
         stuck = λ right k company at. (let v = e.stuck right k company at in (v.0, grows company.node v.0 v.1, v.2));
         judged = λ right i node visited. e.judged right i node (was i node visited);
         all = λ none. absurd (omega (arith, none));
+        waits = e.waits;
+        unneeded = λ right is i node visited. e.unneeded right is i node (was i node visited);
       },
       refl,
     )
@@ -161,12 +173,11 @@ ToldFrom how image order start found = (e : ExploredFrom image order start found
 
 -- the end of the schedule is told beside what was told before, from whichever node the search began at
 pub still_explores : (how : How) (order : List ℕ) (old new : Search) (from number : ℕ) (ends : List ℕ)
-    (companies : List Company) (left after : ℕ) → Dives how order old from new (Some number)
+    (companies : List Company) (left after : ℕ) (may_wait : Bool) → Dives how order old from new (Some number)
     → from + left ≡ length old.nodes.items → (left ≡ 0 → ⊥) → after ≡ left + 1
-    → StillExplores how order
-    (record { kept = old.nodes.items; ends = ends; companies = companies; leads = old.leads.items; left = left })
-    (record { kept = new.nodes.items; ends = ends ++ number ∷ []; companies = companies; leads = new.leads.items; left = after })
-still_explores how order old new from number ends companies left after dives at some is =
+    → StillExplores how order (told old.nodes.items ends companies old.leads.items left may_wait)
+    (told new.nodes.items (ends ++ number ∷ []) companies new.leads.items after may_wait)
+still_explores how order old new from number ends companies left after may_wait dives at some is =
     λ standing explores image here stands way may.
     let v = explores image here stands way may in
     let e = v.0 in
@@ -175,21 +186,11 @@ still_explores how order old new from number ends companies left after dives at 
     let node = at_inside e.nodes from inside in
     let far = dives.1 image e.nodes node.0 (record { are = e.are; leads = leads }) node.1 in
     let x = tells_more image order here old.nodes.items new.nodes.items (dives.0).0 ends companies old.leads.items left number
-    (dives.0).1 e far.more far.grows (far.found).are far.holds in
-    subst (λ n. ToldFrom how image order here (record {
-      kept = new.nodes.items;
-      ends = ends ++ number ∷ [];
-      companies = companies;
-      leads = new.leads.items;
-      left = n;
-    })) (sym is)
-    (subst (λ ls. ToldFrom how image order here (record {
-      kept = new.nodes.items;
-      ends = ends ++ number ∷ [];
-      companies = companies;
-      leads = ls;
-      left = left + 1;
-    })) (sym (dives.0).2) (x.0, x.1 ∙ v.1))
+    may_wait (dives.0).1 e far.more far.grows (far.found).are far.holds in
+    subst (λ n. ToldFrom how image order here
+    (told new.nodes.items (ends ++ number ∷ []) companies new.leads.items n may_wait)) (sym is)
+    (subst (λ ls. ToldFrom how image order here
+    (told new.nodes.items (ends ++ number ∷ []) companies ls (left + 1) may_wait)) (sym (dives.0).2) (x.0, x.1 ∙ v.1))
 
 -- ---- where it was cut
 
@@ -209,15 +210,13 @@ still_bounded states enough most kept more last left after longer some is (inr (
 
 -- nothing was found
 pub same_explores : (how : How) (order : List ℕ) (old new : Search) (from : ℕ) (ends : List ℕ) (companies : List Company)
-    (left : ℕ) → Dives how order old from new None
-    → StillExplores how order
-    (record { kept = old.nodes.items; ends = ends; companies = companies; leads = old.leads.items; left = left })
-    (record { kept = new.nodes.items; ends = ends; companies = companies; leads = new.leads.items; left = left })
-same_explores how order old new from ends companies left same = λ standing explores.
-    subst (λ ks. ExploresFrom how order standing
-    (record { kept = ks; ends = ends; companies = companies; leads = new.leads.items; left = left })) (sym same.0)
-    (subst (λ ls. ExploresFrom how order standing
-    (record { kept = old.nodes.items; ends = ends; companies = companies; leads = ls; left = left })) (sym same.1) explores)
+    (left : ℕ) (may_wait : Bool) → Dives how order old from new None
+    → StillExplores how order (told old.nodes.items ends companies old.leads.items left may_wait)
+    (told new.nodes.items ends companies new.leads.items left may_wait)
+same_explores how order old new from ends companies left may_wait same = λ standing explores.
+    subst (λ ks. ExploresFrom how order standing (told ks ends companies new.leads.items left may_wait)) (sym same.0)
+    (subst (λ ls. ExploresFrom how order standing (told old.nodes.items ends companies ls left may_wait)) (sym same.1)
+    explores)
 
 pub longer_by : (how : How) (order : List ℕ) (old new : Search) (from number : ℕ) → Dives how order old from new (Some number)
     → length new.nodes.items ≡ length old.nodes.items + 1

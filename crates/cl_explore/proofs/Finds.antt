@@ -1,5 +1,5 @@
 -- The search as a whole.
-use Rattle.std.specs.Prelude.{ℕ, zero, suc, ◌+◌, ◌<◌, ◌≤◌, ◌≡◌, ◌⊎◌, List, [], ◌∷◌, ◌++◌, length, option_map, reverse, slice_get, Option, None, Some, Bool, true, false, Result, Ok, Err, IfOk, IfSome, map}
+use Rattle.std.specs.Prelude.{ℕ, zero, suc, ◌+◌, ◌<◌, ◌≤◌, ◌≡◌, ◌⊎◌, List, [], ◌∷◌, ◌++◌, length, option_map, reverse, slice_get, Option, None, Some, Bool, true, false, Result, Ok, Err, IfOk, IfSome, is_some, map}
 use Rattle.std.proofs.Common.{refl, sym, ap, ◌∙◌, subst, arith, inl, inr}
 use Rattle.std.proofs.lemmas.Bool.{cases_eq}
 use Rattle.std.proofs.lemmas.List.{reverse-append, reverse-reverse}
@@ -19,7 +19,7 @@ use Rattle.cl_order_laws.proofs.Walks.{follow as follow_walk}
 use Rattle.cl_moves.specs.Standing.{IsStart, IsWay, StandsAt, by_order, first_node, node_of}
 use Rattle.cl_moves.specs.Posts.{most_posts}
 use Rattle.cl_moves.specs.declared.standing.Standing.{Standing}
-use Rattle.cl_explore.specs.Kept.{IsBefore, IsLed}
+use Rattle.cl_explore.specs.Kept.{IsBefore, IsFound, IsLed}
 use Rattle.rv_image_types.specs.Image.{IsImage}
 use Rattle.cl_deadlock.specs.Why.{IsVerdictOf}
 use Rattle.cl_explore.specs.Companies.{IsCompanyAt, IsJudged, NotesStuck}
@@ -32,17 +32,21 @@ use Rattle.cl_contests.specs.Kept.{search_of, wild_of}
 use Rattle.cl_contests.specs.Below.{WaitsWithin}
 use Rattle.cl_contests.specs.declared.patterns.AskedBy.{AskedBy}
 use Rattle.cl_contest_laws.specs.Below.{IsReachable}
-use Rattle.cl_explore.specs.How.{HasRoom, How, IsFitFor, MayBegin, at_once, by_contest, plainly}
+use Rattle.cl_rests.specs.Needing.{IsNoNeed}
+use Rattle.cl_rests.specs.Telling.{HaveOneHart, IsNeedVerdict}
+use Rattle.cl_explore.specs.How.{HasRoom, How, IsFitFor, MayBegin, at_once, by_contest, plainly, waits_in}
 use Rattle.cl_explore.specs.Covering.{AreLeads, AreNodes, HasRoomAt, IsClosedAt, IsClosedFrom, Reaches}
-use Rattle.cl_explore.specs.Ends.{AreAlikeEnds, AreAllEnds, AreTurnsTo, BeginsAt, BeginsWell, Explored, ExploredBehind, ExploredFrom, ExploresFrom, Findings, Notes}
+use Rattle.cl_explore.specs.Ends.{AreAlikeEnds, AreAllEnds, AreTurnsTo, BeginsAt, BeginsWell, Explored, ExploredBehind, ExploredFrom, ExploresFrom, Findings, IsBounded, Notes}
 use Rattle.cl_explore.specs.Orders.{IsLedBy, named}
 use Rattle.cl_explore.specs.Searching.{AreFound, Arrives, FindsMore, GoesOn, IsVisited, KeepsOf}
 use Rattle.cl_explore.specs.declared.companies.Company.{Company}
+use Rattle.cl_explore.specs.declared.exploring.Exploration.{Exploration}
 use Rattle.cl_explore.specs.declared.kept.KeptNode.{KeptNode}
 use Rattle.cl_explore.specs.declared.moving.Visit.{Visit}
 use Rattle.cl_explore.specs.declared.search.Search.{Search}
 use Rattle.cl_explore.proofs.Lists.{at_inside, at_last, stays_at, was_or_new}
-use Rattle.cl_explore.proofs.Keeping.{led_at, no_way, way_on}
+use Rattle.cl_explore.proofs.Keeping.{led_at, no_way, node_found, way_on}
+use Rattle.cl_explore.proofs.OneEach.{may_wait_in, one_at_start, one_of_other}
 use Rattle.cl_explore.proofs.Covers.{closed_more, closed_over, reaches_in, reaches_more, reaches_on}
 
 -- ---- the first node
@@ -86,6 +90,8 @@ pub record SoFar (how : How) (image : ImageParts) (order : List ℕ) (start : No
       → IsCompanyAt nodes company
   pub judged : IsImage image → (i : ℕ) (node : Node) → i < done → slice_get nodes i ≡ Some node
       → IsJudged companies i node.cluster
+  pub unneeded : IsImage image → waits_in how ≡ true → (i : ℕ) (node : Node) → i < done → slice_get nodes i ≡ Some node
+      → HaveOneHart node.cluster → IsNoNeed node.cluster
 
 pub none_so_far : (how : How) (image : ImageParts) (order : List ℕ) (start : Node) (search : Search)
     (ends : List ℕ) (companies : List Company) → BeginsWell how image order start search → ends ≡ [] → companies ≡ []
@@ -107,6 +113,7 @@ none_so_far how image order start search ends companies begun none nobody = reco
   stuck = λ right k company at.
       let no : slice_get [] k ≡ Some company = subst (λ xs. slice_get xs k ≡ Some company) nobody at in absurd (cc);
   judged = λ right i node low at. absurd (omega (arith, low));
+  unneeded = λ right waits i node low at one. absurd (omega (arith, low));
 }
 
 -- ---- companies that are noted
@@ -149,6 +156,13 @@ judged_still : (old new : List Company) (stuck : Option (List ℕ)) (node : ℕ)
 judged_still old new stuck node notes i cluster (inl none) = inl none
 judged_still old new stuck node notes i cluster (inr noted) =
     inr (noted.0, noted.1, noted_stays old new stuck node notes noted.0 noted.1 noted.2, noted.3, noted.4)
+
+-- ---- ranks that need buffers
+
+no_need : {A : Type 0} (items : A → List ℕ) (cluster : Cluster) (need : Option A) → is_some need ≡ false
+    → IsNeedVerdict cluster (option_map items need) → IsNoNeed cluster
+no_need items cluster None none verdict = verdict
+no_need items cluster (Some ranks) none verdict = absurd (cc)
 
 -- ---- one node more
 
@@ -212,9 +226,9 @@ module _ (how : How) (image : ImageParts) (order : List ℕ) (start : Node) (old
       let low = slice_get_within far.more done node.0 there in omega (arith, low, ((far.found).are).many)
 
   pub more : Notes ends visit.end done now
-      → NotesStuck companies (option_map (λ ranks. ranks.items) visit.stuck) done after
+      → NotesStuck companies (option_map (λ ranks. ranks.items) visit.stuck) done after → is_some visit.need ≡ false
       → SoFar how image order start new now after (done + 1)
-  more ended stuck =
+  more ended stuck none =
       let noted = ends_noted ends now done visit.end ended in
       record {
         nodes = far.more;
@@ -252,6 +266,10 @@ module _ (how : How) (image : ImageParts) (order : List ℕ) (start : Node) (old
             ((far.holds).stuck right))
             (λ j y less was. judged_still companies after (option_map (λ ranks. ranks.items) visit.stuck) done stuck j
             y.cluster (explored.judged right j y less was));
+        unneeded = λ right waits.
+            each (λ j y. HaveOneHart y.cluster → IsNoNeed y.cluster)
+            (λ one. no_need (λ ranks. ranks.items) (node.0).cluster visit.need none ((far.holds).need right one waits))
+            (explored.unneeded right waits);
       }
 
 -- ---- in the end
@@ -330,6 +348,7 @@ covered_ends plainly order nodes start here cov reach begins room closed few fit
 module _ (how : How) (image : ImageParts) (order : List ℕ) (start : Node) (search : Search) (found : Findings)
     (done : ℕ) (explored : SoFar how image order start search found.ends found.companies done)
     (kept : found.kept ≡ search.nodes.items) (leads : found.leads ≡ search.leads.items)
+    (may_wait : found.may_wait ≡ waits_in how) (came : IsFound image order start)
     (room : HasRoom how (hub_of start.cluster.journal)) (begins_well : MayBegin how order start) where
   abbrev them : List Node
   them = explored.nodes
@@ -371,6 +390,12 @@ module _ (how : How) (image : ImageParts) (order : List ℕ) (start : Node) (sea
       stuck = explored.stuck;
       judged = λ right i node visited. explored.judged right i node (low i visited.0) visited.1;
       all = λ is. all_ends (omega (arith, is, many));
+      waits = λ is. may_wait_in how (sym may_wait ∙ is);
+      unneeded = λ right is i node visited.
+          explored.unneeded right (sym may_wait ∙ is) i node (low i visited.0) visited.1
+          (one_of_other image order start node came
+          (node_found image order search.nodes.items them (explored.found).are i node visited.1)
+          (one_at_start how order start (sym may_wait ∙ is) begins_well));
     },
     refl,
   )
@@ -399,24 +424,25 @@ pub more_from : (how : How) (order : List ℕ) (standing : Standing) (old new : 
     (companies after : List Company) (done : ℕ) → SoFarFrom how order standing old ends companies done
     → done < length old.nodes.items → HasRoomAt how old.nodes.items done → (visit : Visit)
     → KeepsOf how order old done new (IsVisited how order new.leads.items done visit) → Notes ends visit.end done now
-    → NotesStuck companies (option_map (λ ranks. ranks.items) visit.stuck) done after
+    → NotesStuck companies (option_map (λ ranks. ranks.items) visit.stuck) done after → is_some visit.need ≡ false
     → SoFarFrom how order standing new now after (done + 1)
-more_from how order standing old new ends now companies after done so_far inside room visit visits notes stuck =
+more_from how order standing old new ends now companies after done so_far inside room visit visits notes stuck none =
     λ image here stands way.
     let s = so_far image here stands way in
     let still = still_inside how image order here old new ends now companies after done s.0 inside room visit visits in (
-      more how image order here old new ends now companies after done s.0 inside room visit visits notes stuck,
+      more how image order here old new ends now companies after done s.0 inside room visit visits notes stuck none,
       omega (arith, still),
     )
 
 pub tells_from : (how : How) (order : List ℕ) (standing : Standing) (search : Search) (found : Findings)
     (done : ℕ) → HasRoom how standing.whole
     → SoFarFrom how order standing search found.ends found.companies done → found.kept ≡ search.nodes.items
-    → found.leads ≡ search.leads.items → length search.nodes.items ≤ done + found.left
+    → found.leads ≡ search.leads.items → found.may_wait ≡ waits_in how
+    → length search.nodes.items ≤ done + found.left
     → ExploresFrom how order standing found
-tells_from how order standing search found done room so_far kept leads many = λ image here stands way begins_well.
-    tells_all how image order here search found done (so_far image here stands way).0 kept leads
-    (subst (HasRoom how) stands.whole room) begins_well many
+tells_from how order standing search found done room so_far kept leads may_wait many = λ image here stands way begins_well.
+    tells_all how image order here search found done (so_far image here stands way).0 kept leads may_wait
+    (standing.steps.items, way) (subst (HasRoom how) stands.whole room) begins_well many
 
 -- from the loaded cluster
 pub explored_start : (how : How) (image : ImageParts) (order : List ℕ) (standing : Standing) (found : Findings)
@@ -455,11 +481,11 @@ explored_all image order found behind =
     subst (λ n. ExploredFrom image order n found) (same_node start (first_node image) way.run way.had) behind.explored
 
 -- where ranks have one hart each a search may begin wherever turns lead, by patterns that have the receives that wait there
-pub may_begin : (kept : List AskedBy) (image : ImageParts) (order : List ℕ) (turns : List Turn) (standing : Standing)
-    (led : IsLedBy image order turns standing) → IsFirstHart order → image.harts ≡ 1 → WaitsWithin (wild_of kept) standing.whole
-    → TellsStart standing true → MayBegin (by_contest (search_of kept)) order led.here
-may_begin kept image order turns standing led first harts waits tells =
-    let contest = search_of kept in
+pub may_begin : (may_wait : Bool) (kept : List AskedBy) (image : ImageParts) (order : List ℕ) (turns : List Turn)
+    (standing : Standing) (led : IsLedBy image order turns standing) → IsFirstHart order → image.harts ≡ 1 → WaitsWithin (wild_of kept) standing.whole
+    → TellsStart standing true → MayBegin (by_contest (search_of may_wait kept)) order led.here
+may_begin may_wait kept image order turns standing led first harts waits tells =
+    let contest = search_of may_wait kept in
     let here = led.here in
     let reachable : IsReachable image here.cluster = (standing.steps.items, ((led.ordered).way).run) in
     starts_well_law contest (by_order order) image here.cluster (λ r. refl) (λ r n. first n) harts reachable
@@ -469,6 +495,17 @@ may_begin kept image order turns standing led first harts waits tells =
 pub if_some_on : {A : Type 0} {P Q : A → Type 0} (o : Option A) → ((a : A) → P a → Q a) → IfSome o P → IfSome o Q
 if_some_on None on is = tt
 if_some_on (Some a) on is = on a is
+
+-- a search that was let visit only a part of the nodes is bounded as if it had been let visit all, if it visited each that it
+-- found
+pub bounded_if : (states part most : ℕ) (may_wait : Bool) (found : Option Exploration) → (may_wait ≡ false → part ≡ states)
+    → (may_wait ≡ true → IfSome found (λ e. e.left ≡ 0))
+    → IfSome found (λ e. IsBounded part None most e.nodes.items e.left)
+    → IfSome found (λ e. IsBounded states None most e.nodes.items e.left)
+bounded_if states part most may_wait None same whole bounded = tt
+bounded_if states part most true (Some e) same whole bounded = inl (whole refl)
+bounded_if states part most false (Some e) same whole bounded =
+    subst (λ n. IsBounded n None most e.nodes.items e.left) (same refl) bounded
 
 -- ---- what led to a node
 

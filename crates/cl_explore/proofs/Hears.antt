@@ -1,22 +1,26 @@
 -- What a listener may be told.
-use Rattle.std.specs.Prelude.{ℕ, ◌<◌, ◌≡◌, List, [], length, slice_get, Some, true}
-use Rattle.std.proofs.Common.{sym, subst}
+use Rattle.std.specs.Prelude.{ℕ, ◌<◌, ◌≡◌, List, [], length, option_map, slice_get, Option, None, Some, IfSome, is_some, true}
+use Rattle.std.proofs.Common.{refl, sym, subst}
 use Rattle.rv_image_types.specs.declared.images.ImageParts.{ImageParts}
 use Rattle.cl_turns.specs.declared.Turn.{Turn}
+use Rattle.cl_machine.specs.Cluster.{Cluster}
 use Rattle.cl_order_laws.specs.Closed.{Node}
+use Rattle.cl_rests.specs.Needing.{IsNeed}
+use Rattle.cl_rests.specs.Telling.{IsNeedVerdict}
 use Rattle.cl_moves.specs.Standing.{IsStart, by_order, first_node}
 use Rattle.cl_moves.specs.declared.standing.Standing.{Standing}
 use Rattle.cl_explore.specs.Diving.{Dives}
 use Rattle.cl_explore.specs.Ends.{BeginsAt}
-use Rattle.cl_explore.specs.How.{How}
-use Rattle.cl_explore.specs.Listening.{CameByOrder, IsEndNode, IsSearchOf}
+use Rattle.cl_explore.specs.How.{How, waits_in}
+use Rattle.cl_explore.specs.Listening.{CameByOrder, IsEndNode, IsImageFor, IsNeedNode, IsSearchOf}
 use Rattle.cl_explore.specs.Orders.{IsLedBy}
 use Rattle.cl_explore.specs.Searching.{IsVisited, KeepsOf}
-use Rattle.cl_explore.specs.declared.leads.Lead.{Lead}
 use Rattle.cl_explore.specs.declared.moving.Visit.{Visit}
 use Rattle.cl_explore.specs.declared.search.Search.{Search}
-use Rattle.cl_explore.proofs.Keeping.{no_way}
+use Rattle.cl_explore.proofs.Finds.{if_some_on}
+use Rattle.cl_explore.proofs.Keeping.{no_way, node_found}
 use Rattle.cl_explore.proofs.Lists.{at_inside}
+use Rattle.cl_explore.proofs.OneEach.{one_of_image}
 
 -- ---- where a search begins
 
@@ -46,6 +50,11 @@ begun how image order standing search came begins =
 
 -- ---- one node more
 
+if_need : {A : Type 0} (items : A → List ℕ) (cluster : Cluster) (need : Option A)
+    → (is_some need ≡ true → IsNeedVerdict cluster (option_map items need)) → IfSome need (λ a. IsNeed (items a) cluster)
+if_need items cluster None verdict = tt
+if_need items cluster (Some a) verdict = verdict refl
+
 module _ (how : How) (image : ImageParts) (order : List ℕ) (old new : Search) (number : ℕ)
     (of : IsSearchOf how image order old) (inside : number < length old.nodes.items) where
   node : (node : Node) × (slice_get of.0 number ≡ Some node)
@@ -59,6 +68,21 @@ module _ (how : How) (image : ImageParts) (order : List ℕ) (old new : Search) 
         (far.more, far.found),
         λ is. (far.more, (far.found).are, (node.0, far.grows number node.0 node.1, ((far.holds).end).0 is)),
       )
+
+  -- and so whether ranks need buffers there
+  pub needed : IsImageFor how image → (visit : Visit) → (is_some visit.need ≡ true → waits_in how ≡ true)
+      → KeepsOf how order old number new (IsVisited how order new.leads.items number visit)
+      → IfSome visit.need (λ ranks. IsNeedNode image order new.nodes.items number ranks.items)
+  needed for visit may visits =
+      let far = visits image of.0 node.0 of.1 node.1 in
+      let found = node_found image order old.nodes.items of.0 (of.1).are number node.0 node.1 in
+      if_some_on visit.need
+      (λ ranks is. (far.more, (far.found).are, (node.0, far.grows number node.0 node.1, is)))
+      (if_need (λ ranks. ranks.items) (node.0).cluster visit.need
+      (λ some.
+      let waits = may some in
+      let known = for waits in
+      (far.holds).need known.0 (one_of_image image order node.0 found known.1) waits))
 
   -- and a schedule was followed to an end
   pub dived : (end : ℕ) → Dives how order old number new (Some end) → IsEndNode image order new.nodes.items end

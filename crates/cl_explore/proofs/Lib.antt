@@ -7,6 +7,7 @@ pub mod Covers
 pub mod Following
 pub mod Tries
 pub mod Dives
+pub mod OneEach
 pub mod Finds
 pub mod Alike
 pub mod Ordering

@@ -1,5 +1,5 @@
 -- Moves of a node, one after another.
-use Rattle.std.specs.Prelude.{ℕ, ◌+◌, ◌<◌, ◌≤◌, ◌≡◌, ◌⊎◌, List, [], ◌∷◌, ◌++◌, length, min, option_map, slice_get, Some}
+use Rattle.std.specs.Prelude.{ℕ, ◌+◌, ◌<◌, ◌≤◌, ◌≡◌, ◌⊎◌, List, [], ◌∷◌, ◌++◌, length, min, option_map, slice_get, Some, true}
 use Rattle.std.proofs.Common.{sym, ap, ◌∙◌, subst, arith, inl, inr}
 use Rattle.std.proofs.lemmas.Bool.{cases_eq}
 use Rattle.std.proofs.lemmas.List.{length-map}
@@ -19,7 +19,8 @@ use Rattle.cl_moves.specs.Standing.{HasNoTurn, IsNextHart, StandsAt, Took, by_or
 use Rattle.cl_moves.specs.declared.standing.Standing.{Standing}
 use Rattle.cl_explore.specs.Kept.{HaveStayed, IsLiveAt, IsLiveOf, KeptStandsAt}
 use Rattle.cl_deadlock.specs.Why.{IsDeadlockVerdict}
-use Rattle.cl_explore.specs.How.{How, IsFitFor}
+use Rattle.cl_rests.specs.Telling.{TellsNeed}
+use Rattle.cl_explore.specs.How.{How, IsFitFor, waits_in}
 use Rattle.cl_explore.specs.Covering.{AreNodes, IsClosedFrom, IsReachedFrom, IsReachedTurn, LeadsGrow, Reaches, AreLeads}
 use Rattle.cl_explore.specs.Searching.{AreClosedBelow, ArePlanned, Arrives, ClosesRank, Goes, GoesEach, GoesOn, IsVisited, KeepsAt, KeepsOf}
 use Rattle.cl_explore.specs.declared.kept.KeptNode.{KeptNode}
@@ -327,15 +328,16 @@ one_closed how order old mid new n live between after count below one = λ image
       later.1,
     )
 
--- each rank is closed, and it was told whether nobody goes on, and who is stuck
+-- each rank is closed, and it was told whether nobody goes on, who is stuck, and who needs buffers
 pub visited : (how : How) (order : List ℕ) (old new : Search) (n : ℕ) (k : KeptNode) → slice_get old.nodes.items n ≡ Some k
     → (live after : Standing) → IsLiveOf k live → (count : ℕ) (visit : Visit)
     → min (length live.cluster.ranks.items) 255 ≤ count → TellsEnd live.cluster order visit.end
     → IsDeadlockVerdict after.cluster (option_map (λ ranks. ranks.items) visit.stuck)
+    → (waits_in how ≡ true → TellsNeed after (option_map (λ ranks. ranks.items) visit.need))
     → ((image : ImageParts) (here : Node) → StandsAt image live here → IsFitFor how here.cluster)
     → ClosesBelow how order old n live count new after
     → KeepsOf how order old n new (IsVisited how order new.leads.items n visit)
-visited how order old new n k at live after is count visit enough tells verdict fits below = λ image nodes node found there.
+visited how order old new n k at live after is count visit enough tells verdict needs fits below = λ image nodes node found there.
     let here = live_at order old.nodes.items n k at live is image nodes node found.are there in
     let stands = here.stands in
     let both = below image nodes node found there here tt in
@@ -357,5 +359,6 @@ visited how order old new n k at live after is count visit enough tells verdict 
             verdict image node.cluster
             (record { right = right; reached = (way.0, (way.1).run); stands = ((both.1).stands).stands });
         fit = fits image node stands;
+        need = λ right one waits. needs waits image node right (way.0, (way.1).run) (both.1).stands one;
       };
     }

@@ -9,11 +9,12 @@ use Rattle.cl_order_laws.specs.Alike.{hub_of}
 use Rattle.cl_order_laws.specs.Closed.{FollowPlans, IsEnd, Node}
 use Rattle.cl_contests.specs.Below.{Wild}
 use Rattle.cl_contests.specs.Below.{AreAlike}
+use Rattle.cl_rests.specs.Needing.{IsNoNeed}
 use Rattle.cl_moves.specs.Standing.{IsWay, StandsAt, by_order, first_node}
 use Rattle.cl_moves.specs.declared.standing.Standing.{Standing}
 use Rattle.cl_explore.specs.Companies.{IsCompanyAt, IsJudged}
 use Rattle.cl_explore.specs.Covering.{AreLeads, AreNodes, IsClosedAt, IsClosedFrom, Reaches}
-use Rattle.cl_explore.specs.How.{HasRoom, How, IsFitFor, MayBegin, plainly}
+use Rattle.cl_explore.specs.How.{HasRoom, How, IsFitFor, MayBegin, MayWaitIn, plainly}
 use Rattle.cl_explore.specs.Orders.{IsOrderedWay}
 use Rattle.cl_explore.specs.declared.companies.Company.{Company}
 use Rattle.cl_explore.specs.declared.exploring.Exploration.{Exploration}
@@ -41,13 +42,14 @@ AreAllEnds order start nodes ends =
     × AreAlikeEnds end node.cluster
 
 -- what a search found: the nodes that are kept, which of them are ends, which ranks are stuck in which of them, between
--- which of them moves led, and how many are left whose moves weren't made
+-- which of them moves led, how many are left whose moves weren't made, and whether standard sends might wait in it
 pub record Findings : Type 0 where
   pub kept : List KeptNode
   pub ends : List ℕ
   pub companies : List Company
   pub leads : List Lead
   pub left : ℕ
+  pub may_wait : Bool
 
 abbrev pub findings : Exploration → Findings
 findings found = record {
@@ -56,6 +58,7 @@ findings found = record {
   companies = found.companies.items;
   leads = found.leads.items;
   left = found.left;
+  may_wait = found.may_wait;
 }
 
 -- the node of this number is one whose moves were made: all but the last ones
@@ -65,7 +68,8 @@ IsVisitedNode nodes left i node = (i + left < length nodes) × (slice_get nodes 
 -- what is kept are nodes to each of which its turns led, they reach the start, those whose moves were made are closed over
 -- them, with few posts where calls for what is there are made at once, and moves led between them; the ends are ends, and
 -- each of those that is one is told; the companies are the most ranks that are stuck together in a node, and each is told
--- of those; and where no node is left the ends are all
+-- of those; and where no node is left the ends are all. Where standard sends might wait for their receives, no ranks need
+-- buffers in a node whose moves were made
 pub record ExploredFrom (image : ImageParts) (order : List ℕ) (start : Node) (found : Findings) : Type 0 where
   pub nodes : List Node
   pub are : AreNodes image order found.kept nodes
@@ -87,6 +91,9 @@ pub record ExploredFrom (image : ImageParts) (order : List ℕ) (start : Node) (
   pub judged : IsImage image → (i : ℕ) (node : Node) → IsVisitedNode nodes found.left i node
       → IsJudged found.companies i node.cluster
   pub all : found.left ≡ 0 → AreAllEnds order start nodes found.ends
+  pub waits : found.may_wait ≡ true → MayWaitIn how
+  pub unneeded : IsImage image → found.may_wait ≡ true → (i : ℕ) (node : Node) → IsVisitedNode nodes found.left i node
+      → IsNoNeed node.cluster
 
 -- from the loaded cluster
 abbrev pub Explored : ImageParts → List ℕ → Findings → Type 0

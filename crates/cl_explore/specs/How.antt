@@ -1,5 +1,5 @@
 -- How a search goes: which turns are taken at once, beside those that need only their rank.
-use Rattle.std.specs.Prelude.{ℕ, ◌<◌, ◌≡◌, List, length}
+use Rattle.std.specs.Prelude.{ℕ, ◌<◌, ◌≡◌, Bool, List, false, length, true}
 use Rattle.cl_machine.specs.Cluster.{Cluster}
 use Rattle.cl_order_laws.specs.Closed.{Node}
 use Rattle.cl_order_laws.specs.Laws.{AreAlike as AreSame}
@@ -23,13 +23,13 @@ pub data How : Type 0 where
   at_once : How
   by_contest : Contest → How
 
-abbrev pub how_of : Way → List AskedBy → How
-how_of ways.Plainly kept = plainly
-how_of ways.AtOnce kept = at_once
-how_of ways.First kept = by_contest (search_of kept)
+abbrev pub how_of : Way → Bool → List AskedBy → How
+how_of ways.Plainly may_wait kept = plainly
+how_of ways.AtOnce may_wait kept = at_once
+how_of ways.First may_wait kept = by_contest (search_of may_wait kept)
 
 abbrev pub how_in : Manner → How
-how_in manner = how_of manner.way manner.patterns.now.kept.items
+how_in manner = how_of manner.way manner.patterns.now.may_wait manner.patterns.now.kept.items
 
 -- ---- which nodes are alike
 
@@ -61,7 +61,19 @@ abbrev pub MayBegin : How → List ℕ → Node → Type 0
 MayBegin (by_contest contest) order start = StartsWell contest (by_order order) start.cluster
 MayBegin _ order start = Unit {0}
 
--- a search is halted for what ranks ask only where turns go first
+-- a search is halted for what ranks ask, or for ranks that need buffers, only where turns go first
 abbrev pub IsHaltOf : Way → Halt → Type 0
 IsHaltOf goes (halt.Fault fault) = Unit {0}
 IsHaltOf goes halt.Outside = goes ≡ ways.First
+IsHaltOf goes halt.Needed = goes ≡ ways.First
+
+-- standard sends may wait for their receives: only where turns go first that nobody contests, and no rank goes first that
+-- rests
+abbrev pub MayWaitIn : How → Type 0
+MayWaitIn (by_contest contest) = contest.may_wait ≡ true
+MayWaitIn _ = ⊥
+
+-- the same as an answer
+abbrev pub waits_in : How → Bool
+waits_in (by_contest contest) = contest.may_wait
+waits_in _ = false

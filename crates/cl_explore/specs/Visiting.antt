@@ -2,6 +2,7 @@
 use Rattle.std.specs.Prelude.{ℕ, option_map}
 use Rattle.cl_explore.specs.Companies.{NotesStuck}
 use Rattle.cl_explore.specs.Ends.{Findings, Notes}
+use Rattle.cl_explore.specs.How.{How, waits_in}
 use Rattle.cl_explore.specs.declared.exploring.Noted.{Noted}
 use Rattle.cl_explore.specs.declared.exploring.Told.{Told}
 use Rattle.cl_explore.specs.declared.moving.Visit.{Visit}
@@ -12,12 +13,13 @@ pub record NotesVisit (old : Noted) (visit : Visit) (node : ℕ) (new : Noted) :
   pub ends : Notes old.ends.items visit.end node new.ends.items
   pub stuck : NotesStuck old.companies.items (option_map (λ ranks. ranks.items) visit.stuck) node new.companies.items
 
--- what a search found, and what was noted
-abbrev pub findings_of : Search → Told → Findings
-findings_of search told = record {
+-- what a search found that goes so, and what was noted
+abbrev pub findings_of : How → Search → Told → Findings
+findings_of how search told = record {
   kept = search.nodes.items;
   ends = told.noted.ends.items;
   companies = told.noted.companies.items;
   leads = search.leads.items;
   left = told.left;
+  may_wait = waits_in how;
 }

@@ -1,17 +1,21 @@
 //! What a search goes by.
 
+ghost use Rattle.std.specs.Prelude.{◌≡◌};
+ghost use Rattle.cl_explore.specs.How.{how_in, waits_in};
+
 use cl_contests::Patterns;
 use rv_image_types::Image;
 use std::alloc::Global;
 
-/// The order of the harts of each rank, how many turns a rank takes by itself at once, and whether lines are wanted that say
-/// how far the search came.
+/// The order of the harts of each rank, how many turns a rank takes by itself at once, whether lines are wanted that say how
+/// far the search came, and whether standard sends always buffer, so that ranks that need buffers aren't looked for.
 #[derive(Clone, Copy, Drop)]
 pub struct Course<'a> {
     pub alloc: Global,
     pub order: &'a [u8],
     pub most: u64,
     pub progress: bool,
+    pub buffered: bool,
 }
 
 /// Which turns are taken at once, beside those that need only their rank.
@@ -35,4 +39,14 @@ pub(crate) struct Manner<'a> {
     pub progress: bool,
     pub way: Way,
     pub patterns: &'a Patterns,
+}
+
+/// Whether standard sends may wait for their receives: only where turns go first that nobody contests.
+pub(crate) fn may_wait(course: &Manner<'_>) -> bool
+    ensures { result ≡ waits_in (how_in course.now) }
+{
+    match course.way {
+        Way::Plainly | Way::AtOnce => false,
+        Way::First => course.patterns.may_wait,
+    }
 }

@@ -1,6 +1,6 @@
 //! The search from the loaded cluster on.
 
-ghost use Rattle.std.specs.Prelude.{◌≡◌, ◌<◌, ℕ, List, [], None, Some, IfErr, IfOk, IfSome, IsTrue, OnOk, is_some, length, slice_get, true};
+ghost use Rattle.std.specs.Prelude.{◌≡◌, ◌<◌, ℕ, Bool, List, [], None, Some, IfErr, IfOk, IfSome, IsTrue, OnOk, false, is_some, length, slice_get, true};
 ghost use Rattle.rv_image_types.specs.declared.images.ImageParts.{ImageParts};
 ghost use Rattle.cl_order_laws.specs.Closed.{Node};
 ghost use Rattle.cl_moves.specs.Standing.{IsWay, by_order, first_node};
@@ -11,14 +11,14 @@ ghost use Rattle.cl_contests.specs.declared.patterns.AskedBy.{AskedBy};
 ghost use Rattle.cl_explore.specs.How.{HasRoom, IsHaltOf, at_once, by_contest, how_in, how_of, plainly};
 ghost use Rattle.cl_explore.specs.declared.course.Way.TheVariants as ways;
 ghost use Rattle.cl_explore.specs.Ends.{AreTurnsTo, BeginsAt, Explored, ExploredBehind, ExploredPlainly, ExploresFrom, IsBounded, Notes, StillExplores, findings};
-ghost use Rattle.cl_explore.specs.Listening.{CameByOrder, IsEndNode, IsSearchOf};
+ghost use Rattle.cl_explore.specs.Listening.{CameByOrder, IsEndNode, IsImageFor, IsNeedNode, IsSearchOf};
 ghost use Rattle.cl_explore.specs.Visiting.{NotesVisit, findings_of};
 ghost use Rattle.cl_explore.specs.Orders.{OrderFaultHolds};
 ghost use Rattle.cl_lines.specs.Telling.{TellsProgress};
 
 use crate::bounds::{Bounds, goes_on, is_deep};
 use crate::companies::{Company, note_stuck};
-use crate::course::{Course, Manner, Way};
+use crate::course::{Course, Manner, Way, may_wait};
 use crate::halt::Halt;
 use crate::kept::KeptNode;
 use crate::leads::Lead;
@@ -43,6 +43,10 @@ const MOST_POSTS: u64 = 65535;
 /// How often a search begins again with more patterns: more often than there are patterns of all ranks.
 const MOST_PASSES: usize = 2048;
 
+/// A search in which standard sends may wait for their receives may visit one of so many of the nodes that are allowed. If that
+/// isn't enough, the search begins again with sends that buffer, and most of the time is kept for that one.
+const WAITING_PART: usize = 8;
+
 /// Where a search came.
 #[derive(Drop)]
 pub struct Exploration {
@@ -58,6 +62,9 @@ pub struct Exploration {
     pub long: Option<u8>,
     /// From which node to which each move led.
     pub leads: Vec<Lead>,
+    /// Whether standard sends might wait for their receives in this search: then no ranks need buffers in the nodes whose
+    /// moves were made.
+    pub may_wait: bool,
 }
 
 /// Where a search begins, in a cluster of this image, and where it comes to an end.
@@ -118,9 +125,10 @@ fn search_nodes<L: Listener, E: Write>(
     requires still { search.old.leads.items ≡ [] }
     requires room { HasRoom (how_in course.now) standing.old.whole }
     requires came { CameByOrder course.now.image.now course.now.order.now standing.old }
+    requires image { IsImageFor (how_in course.now) course.now.image.now }
     requires holds { L.holds listener.old course.now.image.now course.now.order.now }
     ensures ends { IfOk result (λ o. IfSome o (λ told.
-        ExploresFrom (how_in course.now) course.now.order.now standing.old (findings_of search.new told))) }
+        ExploresFrom (how_in course.now) course.now.order.now standing.old (findings_of (how_in course.now) search.new told))) }
     ensures most { IfOk result (λ o. IfSome o (λ told.
         IsBounded bounds.states bounds.enough course.now.most search.new.nodes.items told.left)) }
     ensures plain { course.now.way ≡ ways.Plainly → IfOk result (λ o. is_some o ≡ true) }
@@ -153,6 +161,33 @@ fn tell_end<L: Listener>(
     Ok(())
 }
 
+/// Tells the listener of the ranks that need buffers at the node of this number, if there are any: then the search isn't gone
+/// on with.
+fn tell_need<L: Listener>(
+    course: &Manner<'_>,
+    nodes: &[KeptNode],
+    visit: &Visit,
+    node: usize,
+    listener: &mut L,
+) -> Result<(), Halt>
+    requires need { IfSome visit.now.need (λ ranks.
+        IsNeedNode course.now.image.now course.now.order.now nodes.now node ranks.items) }
+    requires way { is_some visit.now.need ≡ true → course.now.way ≡ ways.First }
+    requires holds { L.holds listener.old course.now.image.now course.now.order.now }
+    ensures none { IfOk result (λ _. is_some visit.now.need ≡ false) }
+    ensures halt { IfErr result (IsHaltOf course.now.way) }
+    ensures holds { L.holds listener.new course.now.image.now course.now.order.now }
+{
+    match &visit.need {
+        None => Ok(()),
+        Some(ranks) => {
+            let them = ranks.as_slice();
+            listener.need(course.alloc, course.image, course.order, nodes, node, them)?;
+            Err(Halt::Needed)
+        }
+    }
+}
+
 /// Where a search was cut before it found an end, one schedule is followed from the first node that is left. Its end is told,
 /// and is one more node that is left.
 fn follow_if_cut<L: Listener>(
@@ -166,7 +201,7 @@ fn follow_if_cut<L: Listener>(
     requires of { IsSearchOf (how_in course.now) course.now.image.now course.now.order.now search.old }
     requires holds { L.holds listener.old course.now.image.now course.now.order.now }
     ensures ends { IfOk result (λ after. StillExplores (how_in course.now) course.now.order.now
-        (findings_of search.old told) (findings_of search.new after)) }
+        (findings_of (how_in course.now) search.old told) (findings_of (how_in course.now) search.new after)) }
     ensures most { IfOk result (λ after. IsBounded bounds.states bounds.enough course.now.most search.old.nodes.items told.left
         → IsBounded bounds.states bounds.enough course.now.most search.new.nodes.items after.left) }
     ensures holds { L.holds listener.new course.now.image.now course.now.order.now }
@@ -198,7 +233,7 @@ fn note(ends: &mut Vec<usize>, end: bool, node: usize) -> Result<(), AllocError>
 
 /// Whether calls for what is there may be made at once beside as many posts, if they are to be.
 fn has_room(way: Way, whole: &WholeHub) -> bool
-    ensures room { IsTrue result → (kept : List AskedBy) → HasRoom (how_of way kept) whole.now }
+    ensures room { IsTrue result → (may_wait : Bool) (kept : List AskedBy) → HasRoom (how_of way may_wait kept) whole.now }
     ensures plain { way ≡ ways.Plainly → result ≡ true }
 {
     match way {
@@ -209,7 +244,8 @@ fn has_room(way: Way, whole: &WholeHub) -> bool
 
 /// The same of the node of this number.
 fn has_room_at(way: Way, nodes: &[KeptNode], node: usize) -> bool
-    ensures room { IsTrue result → (kept : List AskedBy) → HasRoomAt (how_of way kept) nodes.now node }
+    ensures room { IsTrue result → (may_wait : Bool) (kept : List AskedBy)
+        → HasRoomAt (how_of way may_wait kept) nodes.now node }
     ensures plain { way ≡ ways.Plainly → result ≡ true }
 {
     match nodes.get(node) {
@@ -256,7 +292,8 @@ fn tell_progress<E: Write>(
 }
 
 /// The moves of one node after another are made, within bounds. None where calls for what is there are made at once, and a
-/// hub came to have too many posts for that.
+/// hub came to have too many posts for that. Where standard sends may wait for their receives, the search is halted at the first
+/// node at which ranks need buffers: one is enough to know that the program isn't safe without them.
 #[tactic(auto, using(cl_lines::proofs::Behind::nothing_told))]
 fn visit_each<L: Listener, E: Write>(
     course: &Manner<'_>,
@@ -268,10 +305,11 @@ fn visit_each<L: Listener, E: Write>(
 ) -> Result<Option<Told>, Halt>
     requires order { 0 < length course.now.order.now }
     requires of { IsSearchOf (how_in course.now) course.now.image.now course.now.order.now search.old }
+    requires image { IsImageFor (how_in course.now) course.now.image.now }
     requires holds { L.holds listener.old course.now.image.now course.now.order.now }
     ensures ends { IfOk result (λ o. IfSome o (λ told. (standing : StandingView) → HasRoom (how_in course.now) standing.whole
         → BeginsAt (how_in course.now) course.now.order.now standing search.old
-        → ExploresFrom (how_in course.now) course.now.order.now standing (findings_of search.new told))) }
+        → ExploresFrom (how_in course.now) course.now.order.now standing (findings_of (how_in course.now) search.new told))) }
     ensures most { IfOk result (λ o. IfSome o (λ told.
         IsBounded bounds.states bounds.enough course.now.most search.new.nodes.items told.left)) }
     ensures plain { course.now.way ≡ ways.Plainly → IfOk result (λ o. is_some o ≡ true) }
@@ -297,6 +335,7 @@ fn visit_each<L: Listener, E: Write>(
         }
         let visit = search.visit(course, done)?;
         tell_end(course, search.nodes.as_slice(), visit.end, done, listener)?;
+        tell_need(course, search.nodes.as_slice(), &visit, done, listener)?;
         note_visit(&mut noted, visit, done)?;
         done += 1;
         tell_progress(course, search, &noted, bounds.pass, done, err);
@@ -320,6 +359,7 @@ fn search_on<L: Listener, E: Write>(
 ) -> Result<Option<Exploration>, Halt>
     requires order { 0 < length course.now.order.now }
     requires came { CameByOrder course.now.image.now course.now.order.now standing.old }
+    requires image { IsImageFor (how_in course.now) course.now.image.now }
     requires holds { L.holds listener.old course.now.image.now course.now.order.now }
     ensures ends { IfOk result (λ o. IfSome o (λ found.
         ExploresFrom (how_in course.now) course.now.order.now standing.old (findings found))) }
@@ -350,11 +390,13 @@ fn search_on<L: Listener, E: Write>(
         left: told.left,
         long: told.noted.long,
         leads: search.leads,
+        may_wait: may_wait(course),
     }))
 }
 
 /// The same in this way, by these patterns of all ranks. None too where a rank asked beside the patterns, which is left in
-/// `missing`, or where not all ranks may be let go at a cluster in which nobody goes first.
+/// `missing`, where not all ranks may be let go at a cluster in which nobody goes first, or where ranks need buffers, of which
+/// the listener was told.
 fn search<L: Listener, E: Write>(
     course: &Course<'_>,
     start: Start<'_>,
@@ -366,9 +408,11 @@ fn search<L: Listener, E: Write>(
 ) -> Result<Option<Exploration>, MoveFault>
     requires order { 0 < length course.now.order.now }
     requires came { CameByOrder start.image.now course.now.order.now start.standing }
+    requires image { IsImageFor (how_of way patterns.now.may_wait patterns.now.kept.items) start.image.now }
     requires holds { L.holds listener.old start.image.now course.now.order.now }
     ensures ends { IfOk result (λ o. IfSome o (λ found.
-        ExploresFrom (how_of way patterns.now.kept.items) course.now.order.now start.entry.standing (findings found))) }
+        ExploresFrom (how_of way patterns.now.may_wait patterns.now.kept.items) course.now.order.now start.entry.standing
+        (findings found))) }
     ensures most { IfOk result (λ o. IfSome o (λ found.
         IsBounded start.entry.bounds.states start.entry.bounds.enough course.now.most found.nodes.items found.left)) }
     ensures plain { way ≡ ways.Plainly → IfOk result (λ o. is_some o ≡ true) }
@@ -393,6 +437,7 @@ fn search<L: Listener, E: Write>(
         Ok(found) => Ok(found),
         Err(Halt::Fault(fault)) => Err(fault),
         Err(Halt::Outside) => Ok(None),
+        Err(Halt::Needed) => Ok(None),
     }
 }
 
@@ -458,9 +503,32 @@ fn search_plainly<L: Listener, E: Write>(
     }
 }
 
+/// How many nodes a search may visit of so many that are allowed.
+fn states_in(states: usize, may_wait: bool) -> usize
+    ensures { may_wait ≡ false → result ≡ states }
+{
+    if may_wait {
+        return (states / WAITING_PART).max(1);
+    }
+    states
+}
+
+/// Whether what a search found is what is wanted: it found something, and it wasn't cut where standard sends might wait for
+/// their receives.
+fn is_wanted(found: &Option<Exploration>, may_wait: bool) -> bool
+    ensures { IsTrue result → may_wait ≡ true → IfSome found.now (λ e. e.left ≡ 0) }
+{
+    match found {
+        None => false,
+        Some(exploration) => !may_wait || exploration.left == 0,
+    }
+}
+
 /// The same from where turns lead, by the patterns that all ranks turn out to have: while one asks beside those that are
-/// known, the search begins again with these. None where ranks have several harts, where some ask what has no pattern, or
-/// where not all may be let go though nobody goes first. `pass` is the next pass of the search.
+/// known, the search begins again with these. First standard sends may wait for their receives, unless the course says that they
+/// buffer: if such a search comes to its end, no ranks need buffers. Otherwise it begins again with sends that buffer. None where
+/// ranks have several harts, where some ask what has no pattern, or where not all may be let go though nobody goes first. `pass`
+/// is the next pass of the search.
 ///
 /// Refusals: NoTurn where the machine has no such turn there, Clock, Memory.
 #[tactic(auto, using(cl_lines::proofs::Behind::nothing_told))]
@@ -486,19 +554,19 @@ fn search_by_patterns<L: Listener, E: Write>(
     if image.parts().harts != 1 || !is_first_hart(course.order) {
         return Ok(None);
     }
-    let mut patterns = Patterns::new(course.alloc);
+    let mut patterns = Patterns::with_waiting(course.alloc, !course.buffered);
     for _try in 0..MOST_PASSES {
         let mut missing = Patterns::new(course.alloc);
-        let bounds = Bounds {
-            states,
-            enough: None,
-            pass: *pass,
-        };
         let standing = follow(course, image, turns)?;
         add_waits(&mut patterns, &standing.whole)?;
         if !may_start(&standing) {
             return Ok(None);
         }
+        let bounds = Bounds {
+            states: states_in(states, patterns.may_wait),
+            enough: None,
+            pass: *pass,
+        };
         let start = Start {
             image,
             standing,
@@ -513,12 +581,16 @@ fn search_by_patterns<L: Listener, E: Write>(
             listener,
             err,
         )?;
-        if found.is_some() {
+        if is_wanted(&found, patterns.may_wait) {
             return Ok(found);
         }
         *pass = pass.saturating_add(1);
         if missing.is_empty() {
-            return Ok(None);
+            if !patterns.may_wait {
+                return Ok(None);
+            }
+            // ranks need buffers, or such a search can't come to its end: it may where sends buffer
+            patterns.may_wait = false;
         }
         patterns.add_all(&missing)?;
     }
@@ -531,8 +603,11 @@ fn search_by_patterns<L: Listener, E: Write>(
 /// stuck than in one of the nodes. Some are left only where the moves of as many as were allowed have been made, or where a
 /// rank took more turns by itself than it was let at once. Where that is wanted, lines on `err` say how far it came.
 ///
-/// The listener is told of each end as soon as it is found, also of those that are found before the search begins again with
-/// more patterns, whose nodes aren't in what is answered.
+/// Unless the course says that standard sends buffer, a first search lets them wait for their receives. If it comes to its end
+/// it is what is answered, and no run comes to a cluster in which ranks need buffers.
+///
+/// The listener is told of each end as soon as it is found, and of the first node at which ranks need buffers, also of those that
+/// are found before the search begins again, whose nodes aren't in what is answered.
 ///
 /// Refusals: Clock, Memory.
 pub fn explore<L: Listener, E: Write>(

@@ -14,6 +14,8 @@ pub(crate) enum Halt {
     Fault(MoveFault),
     /// A rank asked something that is none of the patterns, or not all ranks may be let go where none goes first.
     Outside,
+    /// Ranks need buffers at a node that was visited.
+    Needed,
 }
 
 impl From<MoveFault> for Halt {

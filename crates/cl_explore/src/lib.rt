@@ -1,6 +1,6 @@
 //! A search of all orders: from the loaded cluster each turn of each hart that is next in its rank, a look that misses
-//! too, until no node is left that isn't alike one that is kept. Of each node it is decided whether nobody goes on there, and which
-//! ranks are stuck.
+//! too, until no node is left that isn't alike one that is kept. Of each node it is decided whether nobody goes on there, which
+//! ranks are stuck, and, in a search in which standard sends may wait for their receives, which ranks need buffers.
 //!
 //! The laws of closed sets are those of `cl_order_laws`; what is done at one cluster is `cl_moves`.
 #![tactic(auto)]

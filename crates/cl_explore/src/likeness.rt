@@ -1,6 +1,6 @@
 //! Whether a standing is alike a node that is kept.
 
-ghost use Rattle.std.specs.Prelude.{◌≡◌, ℕ, IfOk, IfSome, IsTrue, List, map, true};
+ghost use Rattle.std.specs.Prelude.{◌≡◌, ℕ, Bool, IfOk, IfSome, IsTrue, List, map, true};
 ghost use Rattle.mp_alike_laws.specs.Renaming.{Renaming};
 ghost use Rattle.mp_alike.specs.Names.{IsListed};
 ghost use Rattle.cl_state.specs.Room.{rank_of};
@@ -150,8 +150,8 @@ fn hub_names(
     mine: &WholeHub,
     theirs: &WholeHub,
 ) -> Result<Option<Names>, AllocError>
-    ensures { IfOk result (λ found. IfSome found (λ names. (asked : List AskedBy)
-        → AreNamedIn (how_of way asked) names mine.now theirs.now)) }
+    ensures { IfOk result (λ found. IfSome found (λ names. (may_wait : Bool) (asked : List AskedBy)
+        → AreNamedIn (how_of way may_wait asked) names mine.now theirs.now)) }
 {
     match way {
         Way::Plainly | Way::AtOnce => alike_names(alloc, mine, theirs),
@@ -166,8 +166,8 @@ pub(crate) fn is_alike(
     standing: &Standing,
     kept: &KeptNode,
 ) -> Result<bool, AllocError>
-    ensures { IfOk result (λ alike. alike ≡ true → (asked : List AskedBy) (order : List ℕ)
-        → IsAlikeKept (how_of way asked) order standing.now kept.now) }
+    ensures { IfOk result (λ alike. alike ≡ true → (may_wait : Bool) (asked : List AskedBy) (order : List ℕ)
+        → IsAlikeKept (how_of way may_wait asked) order standing.now kept.now) }
 {
     let Some(names) = hub_names(alloc, way, &standing.whole, &kept.whole)? else {
         return Ok(false);

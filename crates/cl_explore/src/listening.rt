@@ -1,14 +1,14 @@
-//! Who is told of ends as a search finds them.
+//! Who is told of ends, and of ranks that need buffers, as a search finds them.
 
 ghost use Rattle.std.specs.Prelude.{ℕ, List, ⊤};
 ghost use Rattle.rv_image_types.specs.declared.images.ImageParts.{ImageParts};
-ghost use Rattle.cl_explore.specs.Listening.{IsEndNode};
+ghost use Rattle.cl_explore.specs.Listening.{IsEndNode, IsNeedNode};
 
 use crate::kept::KeptNode;
 use rv_image_types::Image;
 use std::alloc::{AllocError, Global};
 
-/// Is told of ends as a search finds them.
+/// Is told of ends, and of ranks that need buffers, as a search finds them.
 pub trait Listener {
     // what holds of it, in a search of this image by this order
     ghost holds: { Self → ImageParts → List ℕ → Type 0 };
@@ -23,6 +23,21 @@ pub trait Listener {
         node: usize,
     ) -> Result<(), AllocError>
         requires end { IsEndNode image.now order.now nodes.now node }
+        requires holds { holds self.old image.now order.now }
+        ensures holds { holds self.new image.now order.now };
+
+    /// These ranks need buffers at the node of this number, the most that are held up together there. The only error is want
+    /// of memory.
+    fn need(
+        &mut self,
+        alloc: Global,
+        image: &Image,
+        order: &[u8],
+        nodes: &[KeptNode],
+        node: usize,
+        ranks: &[u8],
+    ) -> Result<(), AllocError>
+        requires need { IsNeedNode image.now order.now nodes.now node ranks.now }
         requires holds { holds self.old image.now order.now }
         ensures holds { holds self.new image.now order.now };
 }
@@ -41,6 +56,18 @@ impl Listener for Deaf {
         _order: &[u8],
         _nodes: &[KeptNode],
         _node: usize,
+    ) -> Result<(), AllocError> {
+        Ok(())
+    }
+
+    fn need(
+        &mut self,
+        _alloc: Global,
+        _image: &Image,
+        _order: &[u8],
+        _nodes: &[KeptNode],
+        _node: usize,
+        _ranks: &[u8],
     ) -> Result<(), AllocError> {
         Ok(())
     }

@@ -1,16 +1,18 @@
 //! All moves of a node.
 
-ghost use Rattle.std.specs.Prelude.{◌≡◌, ◌<◌, IfErr, IfOk, OnOk, Some, length, slice_get};
+ghost use Rattle.std.specs.Prelude.{◌≡◌, ◌<◌, IfErr, IfOk, OnOk, Some, is_some, length, slice_get, true};
+ghost use Rattle.std.specs.Option.{option_map};
 ghost use Rattle.rv_image_types.specs.declared.images.ImageParts.{ImageParts};
 ghost use Rattle.cl_order_laws.specs.Closed.{Node};
 ghost use Rattle.cl_moves.specs.Standing.{StandsAt};
-ghost use Rattle.cl_explore.specs.How.{IsFitFor, IsHaltOf, how_in};
+ghost use Rattle.cl_rests.specs.Telling.{TellsNeed};
+ghost use Rattle.cl_explore.specs.How.{IsFitFor, IsHaltOf, how_in, waits_in};
 ghost use Rattle.cl_explore.specs.Kept.{IsLiveOf};
 ghost use Rattle.cl_explore.specs.Searching.{ClosesRank, Goes, GoesEach, GoesOn, IsVisited, KeepsOf};
 ghost use Rattle.cl_explore.specs.declared.course.Way.TheVariants as ways;
 ghost use Rattle.cl_explore.specs.declared.kept.KeptNode.{KeptNode as KeptView};
 
-use crate::course::{Manner, Way};
+use crate::course::{Manner, Way, may_wait};
 use crate::halt::Halt;
 use crate::leads::Lead;
 use crate::search::Search;
@@ -18,6 +20,8 @@ use cl_contests::{Patterns, go_first, is_first_hart, is_fit};
 use cl_deadlock::deadlock;
 use cl_machine::Step;
 use cl_moves::{Standing, is_done, is_end, turns_of};
+use cl_rests::needing;
+use std::alloc::AllocError;
 
 /// What is known of a node once its moves were made.
 #[derive(Drop)]
@@ -26,6 +30,9 @@ pub(crate) struct Visit {
     pub end: bool,
     /// The most ranks that are stuck together there, if a hart of theirs waits.
     pub stuck: Option<Vec<u8>>,
+    /// The most ranks that are held up together there, if one of them rests. They are looked for only where standard sends may
+    /// wait for their receives.
+    pub need: Option<Vec<u8>>,
     /// The first rank of which a move led to a new node by more turns of its own than it was let take at once.
     pub long: Option<u8>,
 }
@@ -148,6 +155,19 @@ fn check_fit(course: &Manner<'_>, live: &Standing) -> Result<(), Halt>
     }
 }
 
+/// The ranks that need buffers at a standing, where standard sends may wait for their receives. The only error is want of
+/// memory.
+fn needing_in(course: &Manner<'_>, live: &Standing) -> Result<Option<Vec<u8>>, AllocError>
+    ensures need { IfOk result (λ found. waits_in (how_in course.now) ≡ true
+        → TellsNeed live.now (option_map (λ ranks. ranks.items) found)) }
+    ensures waits { IfOk result (λ found. is_some found ≡ true → waits_in (how_in course.now) ≡ true) }
+{
+    if !may_wait(course) {
+        return Ok(None);
+    }
+    needing(course.alloc, live)
+}
+
 impl Search {
     /// One turn of a node at which a standing is, and behind it the turns that are taken at once: where it leads is kept,
     /// unless it is alike a node. Then the standing is at the node again. Answers whether it led to a new node from which
@@ -238,7 +258,7 @@ impl Search {
         Ok(if_long(rank, long))
     }
 
-    /// All moves of a node at which a standing is. Answers whether nobody goes on there, and who is stuck.
+    /// All moves of a node at which a standing is. Answers whether nobody goes on there, who is stuck, and who needs buffers.
     fn visit_from(
         &mut self,
         course: &Manner<'_>,
@@ -249,6 +269,7 @@ impl Search {
         ensures visits { (kept : KeptView) → slice_get self.old.nodes.items node ≡ Some kept → IsLiveOf kept live.old
             → IfOk result (λ visit. KeepsOf (how_in course.now) course.now.order.now self.old node self.new
             (IsVisited (how_in course.now) course.now.order.now self.new.leads.items node visit)) }
+        ensures waits { IfOk result (λ visit. is_some visit.need ≡ true → waits_in (how_in course.now) ≡ true) }
         ensures halt { IfErr result (IsHaltOf course.now.way) }
     {
         check_fit(course, live)?;
@@ -261,20 +282,28 @@ impl Search {
             long = first_of(long, alone);
         }
         let stuck = deadlock(course.alloc, &live.cluster)?;
-        Ok(Visit { end, stuck, long })
+        let need = needing_in(course, live)?;
+        Ok(Visit {
+            end,
+            stuck,
+            need,
+            long,
+        })
     }
 
-    /// All moves of a node. Answers whether nobody goes on there, and who is stuck.
+    /// All moves of a node. Answers whether nobody goes on there, who is stuck, and who needs buffers.
     pub(crate) fn visit(&mut self, course: &Manner<'_>, node: usize) -> Result<Visit, Halt>
         requires { 0 < length course.now.order.now }
         ensures visits { IfOk result (λ visit. KeepsOf (how_in course.now) course.now.order.now self.old node self.new
             (IsVisited (how_in course.now) course.now.order.now self.new.leads.items node visit)) }
+        ensures waits { IfOk result (λ visit. is_some visit.need ≡ true → waits_in (how_in course.now) ≡ true) }
         ensures halt { IfErr result (IsHaltOf course.now.way) }
     {
         if node >= self.nodes.len() {
             return Ok(Visit {
                 end: false,
                 stuck: None,
+                need: None,
                 long: None,
             });
         }

@@ -39,6 +39,7 @@ use Rattle.cl_order_laws.proofs.SureAlone.{IsLive, has_hart, sure_alone_law}
 use Rattle.cl_order_laws.proofs.SureHub.{reply_is, sure_hub_law}
 use Rattle.cl_order_laws.proofs.Vain.{hub_stays}
 use Rattle.cl_order_laws.proofs.Walks.{hub_entry}
+use Rattle.cl_rest_laws.proofs.Resting.{rest_law}
 use Rattle.cl_first_laws.specs.Below.{AreAlike}
 use Rattle.cl_first_laws.proofs.Below.{likeness_law}
 use Rattle.cl_first_laws.specs.Laws.{Turn}
@@ -212,6 +213,8 @@ module _ (search : Search) where
       there = still ∙ sure.there;
       first = first;
       within = λ z at. sure.within z (sym still ∙ at);
+      anyway = λ may_wait.
+          (rest_law.away) a.cluster b.cluster r s (hart s) (hart r) apart one (sure.anyway may_wait);
     }
 
     abbrev Swaps : Type 0

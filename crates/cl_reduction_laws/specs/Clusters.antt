@@ -23,6 +23,7 @@ use Rattle.cl_order_laws.specs.Alike.{AlikeBoxes, hub_of}
 use Rattle.cl_order_laws.specs.Closed.{IsInVain}
 use Rattle.cl_order_laws.specs.Orders.{is_miss}
 use Rattle.cl_order_laws.specs.SureAsks.{IsBusy, IsReady}
+use Rattle.cl_rest_laws.specs.Rests.{rests}
 use Rattle.cl_first_laws.specs.Below.{AreAlike, AskWithin}
 use Rattle.cl_first_laws.specs.Laws.{Turn}
 use Rattle.cl_schedule_laws.specs.Machines.{Machine, Ranks}
@@ -36,6 +37,8 @@ pub record Search : Type 0 where
   pub patterns : Patterns
   -- the one hart of each rank that takes turns
   pub harts : ℕ → ℕ
+  -- whether a standard send may wait for its receive, so that a rank may rest behind it
+  pub may_wait : Bool
 
 -- ---- states
 
@@ -135,6 +138,11 @@ pub data GoesFirst (search : Search) (c : Cluster) (r : ℕ) (rank : Rank) : Typ
       → ((s : ℕ) (other : Rank) → s ≢ r → slice_get c.ranks s ≡ Some other → IsStill c s other (search.harts s))
       → GoesFirst search c r rank
 
+-- the rank doesn't rest behind a standard send, if those may wait for their receives: a rank that rests may not go first, for
+-- it may stay where it is for good
+abbrev pub GoesAnyway : Search → Cluster → ℕ → Type 0
+GoesAnyway search c r = search.may_wait ≡ true → rests c r (search.harts r) ≡ false
+
 -- one rank goes first
 pub record AreSure (search : Search) (c : Cluster) (rs : Ranks) : Type 0 where
   pub one : ℕ
@@ -144,6 +152,7 @@ pub record AreSure (search : Search) (c : Cluster) (rs : Ranks) : Type 0 where
   pub there : slice_get c.ranks one ≡ Some rank
   pub first : GoesFirst search c one rank
   pub within : IsWithin search c one
+  pub anyway : GoesAnyway search c one
 
 -- the rank polls its own receive or send, and it has come
 pub record IsReadyPoll (search : Search) (c : Cluster) (r : ℕ) : Type 0 where

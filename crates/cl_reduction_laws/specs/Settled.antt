@@ -17,7 +17,7 @@ use Rattle.cl_machine.specs.Journal.{reply_in}
 use Rattle.cl_order_laws.specs.Alike.{hub_of}
 use Rattle.cl_order_laws.specs.Closed.{Plans, WaitsInVain}
 use Rattle.cl_first_laws.specs.Below.{AreAlike}
-use Rattle.cl_reduction_laws.specs.Clusters.{Found, GoesFirst, IsWithin, Search, awake_cluster, posts_of}
+use Rattle.cl_reduction_laws.specs.Clusters.{Found, GoesAnyway, GoesFirst, IsWithin, Search, awake_cluster, posts_of}
 use Rattle.cl_reduction_laws.specs.Patterns.{Patterns, by_receiver, by_sender}
 
 -- each rank asks within the patterns
@@ -36,7 +36,7 @@ Settles search Is zero c = AllWithin search c × HasAlike search Is c
 Settles search Is (suc n) c =
     AllWithin search c
     × (HasAlike search Is c
-    ⊎ ((r : ℕ) × (rank : Rank) × (slice_get c.ranks r ≡ Some rank) × GoesFirst search c r rank
+    ⊎ ((r : ℕ) × (rank : Rank) × (slice_get c.ranks r ≡ Some rank) × GoesFirst search c r rank × GoesAnyway search c r
     × ((new : Cluster) → Found r (search.harts r) c new → Settles search Is n new)))
 
 abbrev pub IsSettled : Search → (Cluster → Type 0) → Cluster → Type 0

@@ -2,15 +2,16 @@
 use Rattle.std.proofs.Common.{◌≡◌, ℕ, zero, suc, ◌+◌, ◌<◌, ◌≤◌, ◌⊎◌, inl, inr, Bool, true, false, List, [], ◌∷◌, ◌++◌, length, refl, sym, subst, arith}
 use Rattle.std.proofs.lemmas.Bool.{cases_eq, cases_lt}
 use Rattle.cl_schedule_laws.specs.Machines.{AllWithin, GoesOn, IsMachine, Machine, Ranks}
-use Rattle.cl_schedule_laws.specs.Laws.{HasFound, IsClosed, IsFound, IsNearer, IsOnItsWay, Kept, Leads, ScheduleLaw, kept_of, machine_of}
+use Rattle.cl_schedule_laws.specs.Laws.{HasFound, IsClosed, IsFound, IsLasting, IsNearer, IsOnItsWay, Kept, Leads, ScheduleLaw, holds_of, kept_of, machine_of}
 use Rattle.cl_schedule_laws.proofs.Walks.{AllRoom, Front, Fronted, Reaches, along, front, heavy, is_next, is_there, longer_too, snoc, stays, then}
 
-module _ (m : Machine) (kept : Kept m) (is : IsMachine m) (closed : IsClosed m kept) where
+module _ (m : Machine) (kept : Kept m) (is : IsMachine m) (closed : IsClosed m kept) (P : m.State → Type 0)
+    (lasts : IsLasting m P) where
   abbrev State : Type 0
   State = m.State
 
   abbrev Found : State → Type 0
-  Found here = IsFound m kept here
+  Found here = IsFound m kept P here
 
   -- ---- what is found, along likeness and back along a turn
 
@@ -27,10 +28,11 @@ module _ (m : Machine) (kept : Kept m) (is : IsMachine m) (closed : IsClosed m k
         node = f.node;
         is = f.is;
         alike = is.on t.last f.there f.node (is.back f.there t.last t.alike) f.alike;
+        keeps = λ p. f.keeps (lasts.alike b a (is.back a b alike) p);
       }
 
-  found_back : (r : ℕ) (a b : State) → m.IsWithin a r → m.Goes r a b → Found b → Found a
-  found_back r a b its goes f = record {
+  found_back : (r : ℕ) (a b : State) → m.IsWithin a r → m.Goes r a b → (P a → P b) → Found b → Found a
+  found_back r a b its goes lasting f = record {
     within = λ s. elim (cases_eq s r) [
       | inl same ↦ subst (λ k. m.IsWithin a k) (sym same) its
       | inr apart ↦ (is.own r s a b apart goes).1 (f.within s)
@@ -43,12 +45,13 @@ module _ (m : Machine) (kept : Kept m) (is : IsMachine m) (closed : IsClosed m k
     node = f.node;
     is = f.is;
     alike = f.alike;
+    keeps = λ p. f.keeps (lasting p);
   }
 
-  found_before : (c d : State) → Reaches m is c d → Found d → Found c
+  found_before : (c d : State) → Reaches m is P lasts c d → Found d → Found c
   found_before c d stays f = f
-  found_before c d (then {d = b} s d' more goes asks) f =
-      found_before c b more (found_back s b d asks goes f)
+  found_before c d (then {d = b} s d' more goes asks lasting) f =
+      found_before c b more (found_back s b d asks goes lasting f)
 
   found_node : (a : State) → kept.IsNode a → Found a
   found_node a node = record {
@@ -61,6 +64,7 @@ module _ (m : Machine) (kept : Kept m) (is : IsMachine m) (closed : IsClosed m k
     node = a;
     is = node;
     alike = is.itself a;
+    keeps = λ p. p;
   }
 
   -- ---- of all runs that weigh less, from what settles in fewer turns, and that are shorter
@@ -127,7 +131,7 @@ module _ (m : Machine) (kept : Kept m) (is : IsMachine m) (closed : IsClosed m k
         (each : (r : ℕ) (b : State) → set r ≡ true → m.Goes r start b → IsNearer m kept n b ⊎ m.Alike start b)
         (c : State) where
       along_sooner : {sought : Bool} → (r weight long : ℕ) → weight ≤ w + m.weight start r
-          → (f : Fronted m is sought r start c weight long) → IsNearer m kept n f.first
+          → (f : Fronted m is P lasts sought r start c weight long) → IsNearer m kept n f.first
           → Found c
       along_sooner r weight long most f s =
           found_before c f.end f.more (found_alike f.last f.end (is.back f.end f.last f.alike)
@@ -135,7 +139,8 @@ module _ (m : Machine) (kept : Kept m) (is : IsMachine m) (closed : IsClosed m k
           ((let k = f.light in omega (arith, k, most)), s.1)))
 
       -- a turn in vain is left out
-      left_out : (r weight : ℕ) → weight ≤ w → (f : Fronted m is false r start c weight l) → m.Alike start f.first → Found c
+      left_out : (r weight : ℕ) → weight ≤ w → (f : Fronted m is P lasts false r start c weight l) → m.Alike start f.first
+          → Found c
       left_out r weight most f vain =
           let t = along m is f.ranks f.first start f.last (is.back start f.first vain) f.walk f.inside in
           let same = is.on f.end f.last t.last f.alike t.alike in
@@ -150,7 +155,7 @@ module _ (m : Machine) (kept : Kept m) (is : IsMachine m) (closed : IsClosed m k
                 ((let e = t.weighs in let k = f.light in omega (arith, e, k, most)), omega arith, short)
           ]))
 
-      at_sure : (weight : ℕ) → weight ≤ w → Front m is set one start c weight l → Found c
+      at_sure : (weight : ℕ) → weight ≤ w → Front m is P lasts set one start c weight l → Found c
       at_sure weight most (is_there r among f) = elim (each r f.first among f.goes) [
         | inl on ↦ along_sooner r weight l (omega (arith, most)) f on
         | inr vain ↦ left_out r weight most f vain
@@ -169,8 +174,8 @@ module _ (m : Machine) (kept : Kept m) (is : IsMachine m) (closed : IsClosed m k
     found c rs walk weight long (inr sure) =
         let g = good rs c walk weight long in
         at_sure sure.0 sure.1 sure.4 sure.5 c (heavy m is rs start c walk) weight
-        (longer_too m is sure.0 sure.1 start c (heavy m is rs start c walk) (length rs) l long
-        (front m is sure.0 sure.1 sure.3 rs start c sure.2 walk g.inside g.room))
+        (longer_too m is P lasts sure.0 sure.1 start c (heavy m is rs start c walk) (length rs) l long
+        (front m is P lasts sure.0 sure.1 sure.3 rs start c sure.2 walk g.inside g.room))
 
   -- ---- three bounds, one inside the other
 
@@ -206,9 +211,9 @@ module _ (m : Machine) (kept : Kept m) (is : IsMachine m) (closed : IsClosed m k
   lighter_than (suc w) = λ k a c rs settles walk less.
       sooner_than w (lighter_than w) (suc k) k a c rs settles walk (omega (arith, less), omega arith)
 
-  pub has_found : HasFound m kept
+  pub has_found : HasFound m kept P
   has_found n start end rs settles walk =
       lighter_than (suc (heavy m is rs start end walk)) n start end rs settles walk (omega arith)
 
 pub schedule_law : ScheduleLaw
-schedule_law m is closed = has_found (machine_of m) (kept_of m) is closed
+schedule_law m is closed lasts = has_found (machine_of m) (kept_of m) is closed (holds_of m) lasts

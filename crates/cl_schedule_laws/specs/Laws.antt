@@ -34,8 +34,15 @@ pub record IsClosed (m : Machine) (kept : Kept m) : Type 0 where
   pub settles : (n : ℕ) (a : m.State) → kept.Settles n a → IsOnItsWay m kept n a
   pub asks : (n r : ℕ) (a : m.State) → kept.Settles n a → m.IsWithin a r
 
--- each rank asks within the patterns, there is room, and some turns within the patterns lead to what is alike a node
-pub record IsFound (m : Machine) (kept : Kept m) (here : m.State) : Type 0 where
+-- what holds of a state holds of what is alike, and of where a turn leads of a rank that is sure, or polls what is there
+pub record IsLasting (m : Machine) (P : m.State → Type 0) : Type 0 where
+  pub alike : (a b : m.State) → m.Alike a b → P a → P b
+  pub sure : (rs : Ranks) (r : ℕ) (a b : m.State) → m.AreSure a rs → rs r ≡ true → m.Goes r a b → P a → P b
+  pub ready : (r : ℕ) (a b : m.State) → m.IsReady a r → m.Goes r a b → P a → P b
+
+-- each rank asks within the patterns, there is room, and some turns within the patterns lead to what is alike a node, of which
+-- it holds if it holds here
+pub record IsFound (m : Machine) (kept : Kept m) (P : m.State → Type 0) (here : m.State) : Type 0 where
   pub within : (r : ℕ) → m.IsWithin here r
   pub room : m.HasRoom here
   pub more : List ℕ
@@ -45,11 +52,12 @@ pub record IsFound (m : Machine) (kept : Kept m) (here : m.State) : Type 0 where
   pub node : m.State
   pub is : kept.IsNode node
   pub alike : m.Alike there node
+  pub keeps : P here → P node
 
 -- wherever turns lead from a state that settles, whoever takes them
-abbrev pub HasFound : (m : Machine) → Kept m → Type 0
-HasFound m kept =
-    (n : ℕ) (start end : m.State) (rs : List ℕ) → kept.Settles n start → GoesOn m rs start end → IsFound m kept end
+abbrev pub HasFound : (m : Machine) → Kept m → (m.State → Type 0) → Type 0
+HasFound m kept P =
+    (n : ℕ) (start end : m.State) (rs : List ℕ) → kept.Settles n start → GoesOn m rs start end → IsFound m kept P end
 
 -- ---- machines whose states have numbers, so that the law is one of numbers
 
@@ -65,6 +73,7 @@ pub record Numbered : Type 0 where
   pub ready : ℕ → ℕ → Bool
   pub node : ℕ → Bool
   pub settles : ℕ → ℕ → Bool
+  pub lasting : ℕ → Bool
 
 abbrev pub machine_of : Numbered → Machine
 machine_of m = record {
@@ -83,7 +92,11 @@ machine_of m = record {
 abbrev pub kept_of : (m : Numbered) → Kept (machine_of m)
 kept_of m = record { IsNode = λ a. m.node a ≡ true; Settles = λ n a. m.settles n a ≡ true }
 
+abbrev pub holds_of : (m : Numbered) → ℕ → Type 0
+holds_of m a = m.lasting a ≡ true
+
 abbrev pub ScheduleLaw : Type 0
 ScheduleLaw =
     (m : Numbered) → IsMachine (machine_of m) → IsClosed (machine_of m) (kept_of m)
-    → HasFound (machine_of m) (kept_of m)
+    → IsLasting (machine_of m) (holds_of m)
+    → HasFound (machine_of m) (kept_of m) (holds_of m)

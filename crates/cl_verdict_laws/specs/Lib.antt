@@ -1,4 +1,3 @@
-pub mod Unpaired
 pub mod Asking
 pub mod Live
 pub mod Verdicts

@@ -2,13 +2,7 @@
 
 ghost use Rattle.cl_verdict_laws.specs.Asking.{AskingLaw};
 ghost use Rattle.cl_verdict_laws.specs.Live.{LiveLaw, NamesLaw};
-ghost use Rattle.cl_verdict_laws.specs.Unpaired.{UnpairedLaw};
 ghost use Rattle.cl_verdict_laws.specs.Verdicts.{VerdictLaw};
-
-/// Alike hubs have equally many sends of each kind that nobody received.
-pub fn unpaired_law()
-    ensures { UnpairedLaw }
-{}
 
 /// If one hub doesn't have what a rank asks for, no alike hub has it, and the same ranks could bring it.
 pub fn asking_law()

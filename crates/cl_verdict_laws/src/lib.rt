@@ -1,5 +1,5 @@
-//! Alike clusters that were reached have the same verdict: their ranks wait for the same, as many messages weren't received,
-//! and the same ranks are stuck. Laws over the written cluster machine, with no code.
+//! Alike clusters that were reached have the same verdict: their ranks wait for the same, and the same ranks are stuck. Laws
+//! over the written cluster machine, with no code.
 #![tactic(auto)]
 
 pub mod laws;

@@ -140,19 +140,22 @@ abbrev pub beginning_in : List Row → Option (Option Start)
 beginning_in rows =
     option_map_or (λ text. option_map (λ start. Some start) (start_in text)) (first_of (codes "from") rows) (Some None)
 
--- `--join` stands alone; a split looks for no ends; and a start has its plan in it
+-- `--join` stands alone; a split looks for no ends; and a start has its plan in it. `--buffered` leaves out what a split
+-- doesn't look for, so it changes nothing there
 abbrev pub explore_fits : List Row → Option ⊤
 explore_fits rows =
     option_and_then (λ _. option_and_then (λ _. apart (codes "from") (codes "plan" ∷ []) rows)
     (apart (codes "split") (codes "from" ∷ codes "states" ∷ codes "record" ∷ []) rows))
     (apart (codes "join") (codes "source" ∷ codes "plan" ∷ codes "states" ∷ codes "turns" ∷ codes "record" ∷ codes "split"
-    ∷ codes "from" ∷ codes "progress" ∷ []) rows)
+    ∷ codes "from" ∷ codes "buffered" ∷ codes "progress" ∷ []) rows)
 
 -- all ends behind a start, or else from the image on
 abbrev pub ends_by : ℕ → ℕ → Option ℕ → Option Start → List Row → Option ImageCommand
-ends_by states turns end (Some start) rows = Some (ExploreFrom start states turns end (flag_in (codes "progress") rows))
+ends_by states turns end (Some start) rows =
+    Some (ExploreFrom start states turns end (flag_in (codes "buffered") rows) (flag_in (codes "progress") rows))
 ends_by states turns end None rows =
-    option_map (λ plan. Explore plan states turns end (flag_in (codes "progress") rows)) (list_option (codes "plan") rows)
+    option_map (λ plan. Explore plan states turns end (flag_in (codes "buffered") rows) (flag_in (codes "progress") rows))
+    (list_option (codes "plan") rows)
 
 abbrev pub ends_in : ℕ → List Row → Option ImageCommand
 ends_in turns rows =
@@ -176,14 +179,14 @@ explored_in rows =
     else option_map (λ search. OfImage (flag_in (codes "source") rows) search) (search_in rows)
 
 -- `explore [--source] [--plan HARTS] [--states N] [--turns N] [--record K] [--split N] [--from START] [--join]
--- [--progress]`
+-- [--buffered] [--progress]`
 abbrev pub explore_row : CommandRow
 explore_row =
     record {
       name = codes "explore";
       rules = flag (codes "source") ∷ option (codes "plan") ∷ option (codes "states") ∷ option (codes "turns")
           ∷ option (codes "record") ∷ option (codes "split") ∷ option (codes "from") ∷ flag (codes "join")
-          ∷ flag (codes "progress") ∷ [];
+          ∷ flag (codes "buffered") ∷ flag (codes "progress") ∷ [];
       meaning = λ rows. option_and_then (λ _. explored_in rows) (explore_fits rows);
     }
 

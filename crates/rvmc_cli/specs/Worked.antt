@@ -52,20 +52,20 @@ why_a_wrong_word = refl
 -- ---- all orders
 
 -- without options an image is searched, by the plan of all harts in order, as far as 1,000,000 states
-pub all_ends : meaning_of (codes "explore" ∷ []) ≡ Some (OfImage false (Explore None 1000000 1000000 None false))
+pub all_ends : meaning_of (codes "explore" ∷ []) ≡ Some (OfImage false (Explore None 1000000 1000000 None false false))
 unfolding faults_in command_in line_in clap_on_literals
 all_ends = refl
 
 -- `--record` takes the number of an end, where `one` has a flag of this name
 pub second_end : meaning_of (codes "explore" ∷ codes "--source" ∷ codes "--record=2" ∷ [])
-    ≡ Some (OfImage true (Explore None 1000000 1000000 (Some 2) false))
+    ≡ Some (OfImage true (Explore None 1000000 1000000 (Some 2) false false))
 unfolding faults_in command_in line_in clap_on_literals number_in
 second_end = refl
 
 -- each bound has its own option
 pub bounds_and_plan : meaning_of
     (codes "explore" ∷ codes "--turns" ∷ codes "16777216" ∷ codes "--states=5" ∷ codes "--plan=0,1" ∷ [])
-    ≡ Some (OfImage false (Explore (Some (0 ∷ 1 ∷ [])) 5 16777216 None false))
+    ≡ Some (OfImage false (Explore (Some (0 ∷ 1 ∷ [])) 5 16777216 None false false))
 unfolding faults_in command_in line_in clap_on_literals number_in numbers_in
 bounds_and_plan = refl
 
@@ -80,9 +80,15 @@ why_no_end_0 = refl
 
 -- lines that say how far it came come if they are asked for
 pub told_on_the_way : meaning_of (codes "explore" ∷ codes "--progress" ∷ [])
-    ≡ Some (OfImage false (Explore None 1000000 1000000 None true))
+    ≡ Some (OfImage false (Explore None 1000000 1000000 None false true))
 unfolding faults_in command_in line_in clap_on_literals
 told_on_the_way = refl
+
+-- ranks that need buffers are looked for, unless this is said
+pub not_looked_for : meaning_of (codes "explore" ∷ codes "--buffered" ∷ [])
+    ≡ Some (OfImage false (Explore None 1000000 1000000 None true false))
+unfolding faults_in command_in line_in clap_on_literals
+not_looked_for = refl
 
 -- and a search has no budget
 pub why_no_budget : refusals_of (codes "explore" ∷ codes "--budget" ∷ codes "5" ∷ []) ≡ kind.UnknownArgument ∷ []
@@ -124,9 +130,21 @@ the_start =
 
 -- the record of an end behind it
 pub behind_a_start : meaning_of (codes "explore" ∷ codes "--from" ∷ a_start ∷ codes "--record=1" ∷ [])
-    ≡ Some (OfImage false (ExploreFrom the_start 1000000 1000000 (Some 1) false))
+    ≡ Some (OfImage false (ExploreFrom the_start 1000000 1000000 (Some 1) false false))
 unfolding faults_in command_in line_in clap_on_literals number_in numbers_in start_in place_in sum_in hex_in turns_in item_in
 behind_a_start = refl
+
+-- ranks that need buffers are not looked for behind it either
+pub not_looked_for_behind_a_start : meaning_of (codes "explore" ∷ codes "--buffered" ∷ codes "--from" ∷ a_start ∷ [])
+    ≡ Some (OfImage false (ExploreFrom the_start 1000000 1000000 None true false))
+unfolding faults_in command_in line_in clap_on_literals number_in numbers_in start_in place_in sum_in hex_in turns_in item_in
+not_looked_for_behind_a_start = refl
+
+-- a split is the same with it
+pub a_split_looks_for_none : meaning_of (codes "explore" ∷ codes "--split=64" ∷ codes "--buffered" ∷ [])
+    ≡ Some (OfImage false (Split None 64 1000000 false))
+unfolding faults_in command_in line_in clap_on_literals number_in
+a_split_looks_for_none = refl
 
 -- the fourth of three starts
 pub no_fourth_start : meaning_of
@@ -157,6 +175,10 @@ why_no_joined_source = refl
 pub no_joined_progress : meaning_of (codes "explore" ∷ codes "--join" ∷ codes "--progress" ∷ []) ≡ None
 unfolding faults_in command_in line_in clap_on_literals
 no_joined_progress = refl
+
+pub no_joined_buffered : meaning_of (codes "explore" ∷ codes "--join" ∷ codes "--buffered" ∷ []) ≡ None
+unfolding faults_in command_in line_in clap_on_literals
+no_joined_buffered = refl
 
 -- what doesn't stand together is refused whatever its value
 pub no_joined_split : meaning_of (codes "explore" ∷ codes "--join" ∷ codes "--split" ∷ codes "few" ∷ []) ≡ None

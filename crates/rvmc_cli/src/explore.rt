@@ -1,4 +1,5 @@
-//! `explore [--source] [--plan HARTS] [--states N] [--turns N] [--record K] [--split N] [--from START] [--join] [--progress]`.
+//! `explore [--source] [--plan HARTS] [--states N] [--turns N] [--record K] [--split N] [--from START] [--join] [--buffered]
+//! [--progress]`.
 
 ghost use Rattle.std.specs.Prelude.{IfOk};
 ghost use Rattle.clap.specs.Walk.{rows_of};
@@ -20,14 +21,18 @@ use std::alloc::{AllocError, Global};
 const EXAMPLES: &str = "\
 What a program prints may depend on which rank runs first. `explore` runs the
 image under every schedule of its ranks, and lists every outcome: an end, which
-is a state from which no hart goes on, or ranks that are stuck while others run
-on for ever, as `deadlock: ranks 1 2 while others run on`.
+is a state from which no hart goes on; ranks that are stuck while others run on
+for ever, as `deadlock: ranks 1 2 while others run on`; or ranks that need
+buffers, as `needs buffering: ranks 0 1`.
 
-The verdict is about this machine. A send copies its message and returns, and a
+Every run is one of this machine. A send copies its message and returns, and a
 message arrives at once. MPI allows more: a standard send may wait until it is
-received (MPI 4.1, 3.4), so a program that relies on buffering shows no deadlock
-here. The harts of a rank take turns in the order that --plan lists, the same
-for each rank: numbers from 0 to 255 with a comma between them.
+received (MPI 4.1, 3.4). Ranks that would be stuck then need buffers, and the
+program is unsafe (3.5), though each run of it may end well here. The first ones
+that are found are listed. --buffered takes each standard send to copy its
+message and to return, and doesn't look for ranks that need buffers. The harts
+of a rank take turns in the order that --plan lists, the same for each rank:
+numbers from 0 to 255 with a comma between them.
 
 For each end the text has what each rank printed, how each hart ended, and, if a
 hart waits for ever, the text of `rvmc why`. From the second outcome on, the
@@ -49,6 +54,12 @@ means that the search stopped after --states states. Between two calls that
 other ranks may answer, a rank runs alone. If that takes more than --turns turns,
 and states are left, the line says `not all: rank 0 takes more than 1000000 turns
 alone`. There is no budget.
+
+`no other outcome with buffered sends` in place of `no other outcome` means that
+no run here has another outcome, but other ranks may need buffers. It is printed
+with --buffered, where ranks that need buffers are listed, where looking for them
+took too long, and where nobody can look for them: where ranks have several harts,
+or one waits for a partition that it hasn't made ready itself.
 
 A search may take long. --progress prints a line on standard error after 100,
 200, .. 900, 1000, 2000, .. states: how many of them are ends, and how many more
@@ -88,8 +99,8 @@ Status:
   4 the list is not complete
   5 out of memory
   6 a read or write failed, or the input is too long
-  7 the list is complete, and some end is a deadlock, or some ranks are stuck
-    while others run on
+  7 the list is complete, and some end is a deadlock, some ranks are stuck
+    while others run on, or some ranks need buffers
   8 the list is complete, and some run goes on for ever: nothing ends it any more
 
 Examples:
@@ -139,6 +150,7 @@ static PARTS: &[Part] = &[
         "join",
         "Read what --from printed for each start, list all outcomes",
     ),
+    Part::Flag("buffered", "Don't look for ranks that need buffers"),
     Part::Flag(
         "progress",
         "Say on standard error now and then how far the search is",
@@ -213,7 +225,7 @@ fn fits<'a>(matches: &ArgMatches<'a>) -> Result<(), Wrong<'a>>
         matches,
         "join",
         &[
-            "source", "plan", "states", "turns", "record", "split", "from", "progress",
+            "source", "plan", "states", "turns", "record", "split", "from", "buffered", "progress",
         ],
     )?;
     apart(matches, "split", &["from", "states", "record"])?;
@@ -226,6 +238,7 @@ fn ends<'a>(alloc: Global, matches: &ArgMatches<'a>, turns: u64) -> Result<Image
 {
     let states = states(matches)?;
     let record = end(matches)?;
+    let buffered = values::flag(matches, "buffered");
     let progress = values::flag(matches, "progress");
     if let Some(start) = beginning(alloc, matches)? {
         return Ok(ImageCommand::ExploreFrom {
@@ -233,6 +246,7 @@ fn ends<'a>(alloc: Global, matches: &ArgMatches<'a>, turns: u64) -> Result<Image
             states,
             turns,
             record,
+            buffered,
             progress,
         });
     }
@@ -242,6 +256,7 @@ fn ends<'a>(alloc: Global, matches: &ArgMatches<'a>, turns: u64) -> Result<Image
         states,
         turns,
         record,
+        buffered,
         progress,
     })
 }

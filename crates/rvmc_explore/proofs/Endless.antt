@@ -2,14 +2,15 @@
 use Rattle.std.proofs.Common.{ℕ, zero, suc, ◌≡◌, ◌<◌, ◌==◌, ◌⊎◌, ◌∙◌, List, [], ◌∷◌, length, map, Bool, true, false, IsTrue, Some, slice_get, inl, inr, refl, sym, subst, ap, arith, get_or}
 use Rattle.std.specs.Prelude.{◌%◌, ◌&&◌, ◌||◌, if◌then◌else◌, not}
 use Rattle.std.specs.List.{list_any}
-use Rattle.std.proofs.lemmas.Bool.{and_from, eq-eqb, eqb-true}
+use Rattle.std.proofs.lemmas.Bool.{and_from, eq-eqb, eqb-true, or_cases}
 use Rattle.std.proofs.lemmas.List.Elements.{All-get_or}
-use Rattle.std.proofs.lemmas.List.Folds.{list_any_at}
+use Rattle.std.proofs.lemmas.List.Folds.{list_any-append, list_any_at}
 use Rattle.std.proofs.Math.Nat.{mod-lt}
 use Rattle.std.proofs.lemmas.Option.{get_or_from_slice_get, same_Some, slice_get-get_or, slice_get_within}
 use Rattle.rv_image_types.specs.Image.{IsImage}
 use Rattle.rv_image_types.specs.declared.images.ImageParts.{ImageParts}
-use Rattle.cl_machine.specs.Cluster.{Cluster, IsRun}
+use Rattle.cl_state.specs.Rank.{Rank, below}
+use Rattle.cl_machine.specs.Cluster.{Cluster, IsRun, loaded_cluster}
 use Rattle.cl_machine.specs.declared.steps.Step.{Step}
 use Rattle.cl_explore.specs.Below.{no_renaming}
 use Rattle.cl_order_laws.specs.Alike.{hub_of}
@@ -24,7 +25,9 @@ use Rattle.cl_outcome_laws.specs.Unending.{IsAfter, MayEnd, NeverEnds}
 use Rattle.cl_outcome_laws.proofs.Companies.{company_law}
 use Rattle.cl_outcome_laws.proofs.Unending.{unending_law}
 use Rattle.cl_explore.specs.Below.{AreBelow}
-use Rattle.cl_deadlock_laws.specs.Stuck.{IsReachable}
+use Rattle.cl_deadlock_laws.specs.Stuck.{IsReachable, is_among}
+use Rattle.cl_rest_laws.specs.Buffering.{NeedBuffers}
+use Rattle.cl_rest_laws.proofs.Ends.{end_law}
 use Rattle.cl_deadlock_laws.proofs.Reached.{comes_reached, same_harts}
 use Rattle.cl_explore.specs.Below.{IsOrder, in_slot}
 use Rattle.cl_moves.specs.Posts.{most_posts}
@@ -32,13 +35,14 @@ use Rattle.cl_moves.specs.Standing.{IsWay, by_order, first_node, node_of}
 use Rattle.cl_explore.specs.Below.{Contest}
 use Rattle.cl_explore.specs.Below.{IsContestGraph, IsGood}
 use Rattle.cl_explore.proofs.Below.{contest_law, good_law, never_ends_law}
-use Rattle.cl_explore.specs.How.{AreAlikeFor, HasRoom, How, IsFitFor, MayBegin, at_once, by_contest, plainly}
+use Rattle.cl_explore.specs.How.{AreAlikeFor, HasRoom, How, IsFitFor, MayBegin, MayWaitIn, at_once, by_contest, plainly}
 use Rattle.cl_explore.specs.Covering.{AreJoined, HasLead, IsClosedAt, IsClosedFrom, Reaches}
 use Rattle.cl_explore.specs.Ends.{ExploredFrom, Findings, IsVisitedNode}
 use Rattle.cl_explore.specs.declared.leads.Lead.{Lead}
 use Rattle.cl_explore.proofs.Keeping.{node_found}
 use Rattle.cl_explore.proofs.Lists.{at_inside}
-use Rattle.rvmc_explore.specs.Endless.{AllMayEnd, AreComplete, NeverStuck, SaysNoneStuck, SaysUnending, SaysUnendingOf, SomeNeverEnds}
+use Rattle.rvmc_explore.specs.Endless.{AllMayEnd, AreComplete, NeverNeeds, NeverStuck, SaysEndsAnyway, SaysNoneNeed, SaysNoneStuck, SaysUnending, SaysUnendingOf, SomeNeverEnds}
+use Rattle.rvmc_explore.specs.Outcomes.{any_need}
 use Rattle.rvmc_explore.specs.Searched.{AreSound, GoesIn}
 use Rattle.rvmc_explore.specs.StatusLaw.{StatusLaw}
 use Rattle.rvmc_explore.specs.Telling.{Tells, any_end, is_some_company, has_stuck, trapped_in, waits_in}
@@ -76,6 +80,10 @@ lead_edge leads i j led =
     ∙ and_from (lead.from == i) (lead.to == j) (eq-eqb lead.from i led.3) (eq-eqb lead.to j led.4))
 
 -- ---- what was found, as a graph
+
+-- the ranks need buffers at one of the nodes
+abbrev NeedAt : List ℕ → List Node → Type 0
+NeedAt ranks nodes = (i : ℕ) × (node : Node) × (slice_get nodes i ≡ Some node) × NeedBuffers ranks node.cluster
 
 -- with calls for what is there made at once, or without
 abbrev how_by : Bool → How
@@ -218,6 +226,16 @@ module _ (image : ImageParts) (order : List ℕ) (start : Node) (nodes : List No
       contest_law.companies contest plans nodes start whole.begins whole.start_is
       (record { closed = λ i r node rank at has. whole.closed i r node at rank has; fit = whole.fit })
 
+  -- ranks that need buffers where a run leads do so at some node, if standard sends might wait
+  need_by : (how : How) → MayWaitIn how → Whole how image order start nodes leads → (steps : List Step) (end : Cluster)
+      → IsRun start.cluster steps end → FollowPlans plans start.had steps → (ranks : List ℕ) → NeedBuffers ranks end
+      → NeedAt ranks nodes
+  need_by at_once waits whole = absurd waits
+  need_by plainly waits whole = absurd waits
+  need_by (by_contest contest) waits whole =
+      contest_law.buffering contest plans nodes start whole.begins whole.start_is
+      (record { closed = λ i r node rank at has. whole.closed i r node at rank has; fit = whole.fit }) waits
+
 -- whether no mark of the node of this number is left out
 abbrev marked : List Bool → ℕ → Bool
 marked marks i = get_or marks i true
@@ -357,7 +375,76 @@ module _ (image : ImageParts) (order : List ℕ) (start : Node) (found : Finding
             let low = slice_get_within found.companies noted.0 noted.1 noted.2 in absurd (omega (arith, low, none))
       ]
 
+  -- ---- ranks that need buffers
+
+  pub never_needs : IsImage image → found.may_wait ≡ true → NeverNeeds image order start
+  never_needs limits waiting = λ steps end run follow ranks below need.
+      let waits = explored.waits waiting in
+      let at = need_by image order start nodes found.leads explored.how waits whole steps end run follow ranks need in
+      let way = reached at.0 at.1 at.2 in
+      let count = (comes_reached image way.0 at.1.cluster (way.1).run).count in
+      explored.unneeded limits waiting at.0 at.1 (visited at.0 at.1 at.2) ranks
+      (subst (AreBelow ranks) (sym count) below) at.3
+
+-- ---- ends where sends wait
+
+below_low : (n : ℕ) → AreBelow (below n) n
+below_low zero = λ r is. absurd (cc)
+below_low (suc n) = λ r is.
+    let either = sym (list_any-append (λ k. k == r) (below n) (n ∷ [])) ∙ is in
+    elim (or_cases (is_among (below n) r) (is_among (n ∷ []) r) either) [
+      | inl before ↦ (let low = below_low n r before in omega (arith, low))
+      | inr last ↦ elim (or_cases (n == r) false last) [
+        | inl same ↦ (let e = eqb-true n r same in omega (arith, e))
+        | inr off ↦ absurd (cc)
+      ]
+    ]
+
+-- each rank has one hart, which takes all its turns
+record IsOfOneHart (order : List ℕ) (cluster : Cluster) : Type 0 where
+  plans_are : (r n : ℕ) → by_order order r n ≡ 0
+  one : (r : ℕ) (rank : Rank) → slice_get cluster.ranks r ≡ Some rank → length rank.harts ≡ 1
+
+-- a search in which standard sends might wait begins there
+begins_single : (how : How) (order : List ℕ) (start : Node) → MayWaitIn how → MayBegin how order start
+    → IsOfOneHart order start.cluster
+begins_single at_once order start waits begins = absurd waits
+begins_single plainly order start waits begins = absurd waits
+begins_single (by_contest contest) order start waits begins =
+    record { plans_are = (begins.single).plans_are; one = (begins.single).one }
+
+-- the image says so too: it has a rank at least
+one_hart : (image : ImageParts) (cluster : Cluster) → IsImage image → IsReachable image cluster
+    → ((r : ℕ) (rank : Rank) → slice_get cluster.ranks r ≡ Some rank → length rank.harts ≡ 1) → image.harts ≡ 1
+one_hart image cluster limits reached one =
+    let comes = comes_reached image reached.0 cluster reached.1 in
+    let some = limits.has_ranks in
+    let count = comes.count in
+    let first = at_inside cluster.ranks 0 (omega (arith, some, count)) in
+    let run = comes.alone 0 first.0 first.1 in
+    sym (same_harts image 0 run.0 first.0 run.1) ∙ one 0 first.0 first.1
+
 -- ---- as it is said
+
+-- from the loaded cluster on
+pub says_ends_anyway : (image : ImageParts) (order : List ℕ) (found : Findings) → IsImage image
+    → ExploredFrom image order (first_node image) found → SaysEndsAnyway order (first_node image) found.left found.may_wait
+says_ends_anyway image order found limits explored all waiting = λ steps end run follow ends.
+    let single = begins_single explored.how order (first_node image) (explored.waits waiting) explored.begins in
+    let count = (comes_reached image steps end run).count in
+    elim (end_law image (by_order order) end limits
+    (one_hart image (loaded_cluster image) limits ([], refl) single.one) single.plans_are (steps, run) ends) [
+      | inl is ↦ is
+      | inr need ↦
+          let ranks = below (length end.ranks) in
+          absurd (never_needs image order (first_node image) found explored all limits waiting steps end run follow ranks
+          (subst (AreBelow ranks) count (below_low (length end.ranks))) need)
+    ]
+
+pub says_none_need : (image : ImageParts) (order : List ℕ) (start : Node) (found : Findings) → IsImage image
+    → ExploredFrom image order start found → SaysNoneNeed image order start found.left found.may_wait
+says_none_need image order start found limits explored all waiting =
+    never_needs image order start found explored all limits waiting
 
 pub says_none_stuck : (image : ImageParts) (order : List ℕ) (start : Node) (found : Findings) → IsImage image
     → ExploredFrom image order start found → SaysNoneStuck image order start found.left found.companies
@@ -414,9 +501,14 @@ by_cases true false true unending status is which =
 by_cases true false false true status is which = (refl, refl, λ none. absurd (omega (arith, is, none)), λ eight. refl)
 by_cases true false false false status is which = (refl, refl, λ none. refl, λ eight. absurd (omega (arith, is, eight)))
 
-no_company : (found : Findings) (ends : Bool) → (ends || is_some_company found.companies) ≡ false → length found.companies ≡ 0
-no_company found true none = absurd (cc)
-no_company found false none = of (length found.companies == 0) refl none
+neither_of : (a b : Bool) → (a || b) ≡ false → a ≡ false
+neither_of true b none = absurd (cc)
+neither_of false b none = refl
+
+no_company : (found : Findings) (ends need : Bool) → ((ends || is_some_company found.companies) || need) ≡ false
+    → length found.companies ≡ 0
+no_company found true need none = absurd (cc)
+no_company found false need none = of (length found.companies == 0) refl (neither_of (is_some_company found.companies) need none)
   where
     of : (b : Bool) → (length found.companies == 0) ≡ b → not b ≡ false → length found.companies ≡ 0
     of true is none = eqb-true (length found.companies) 0 is
@@ -428,10 +520,10 @@ status_at : (image : ImageParts) (order : List ℕ) (states turns : ℕ) (text :
     × (status ≡ 0 → tells.unending ≡ false) × (status ≡ 8 → tells.unending ≡ true)
 status_at image order states turns text status tells which =
     let found = (tells.listed).found in
-    let is = by_cases (found.left == 0) (any_end trapped_in found.kept found.ends) (has_stuck order found) tells.unending status
-    tells.status_is which in
+    let is = by_cases (found.left == 0) (any_end trapped_in found.kept found.ends)
+    (has_stuck order found || any_need tells.told) tells.unending status tells.status_is which in
     let none_left : found.left ≡ 0 = eqb-true found.left 0 is.0 in
-    let none = no_company found (any_end (waits_in order) found.kept found.ends) is.1 in
+    let none = no_company found (any_end (waits_in order) found.kept found.ends) (any_need tells.told) is.1 in
     (tells.none_stuck none_left none, none_left, is.2, is.3)
 
 pub status_law : StatusLaw
@@ -440,12 +532,13 @@ status_law = record {
       let is = status_at image order states turns text 0 tells (inl refl) in
       let quiet : SaysUnending image order (first_node image) ((tells.listed).found).left false =
       subst (SaysUnending image order (first_node image) ((tells.listed).found).left) (is.2 refl) tells.unending_is in
-      record { ends = quiet is.1 harts; never_stuck = is.0 };
+      record { ends = quiet is.1 harts; never_stuck = is.0; never_need = tells.none_need is.1 };
   eight = λ image order states turns text tells.
       let is = status_at image order states turns text 8 tells (inr refl) in
       record {
         endless = subst (SaysUnending image order (first_node image) ((tells.listed).found).left) (is.3 refl)
             tells.unending_is;
         never_stuck = is.0;
+        never_need = tells.none_need is.1;
       };
 }

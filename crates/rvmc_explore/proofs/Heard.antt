@@ -1,20 +1,23 @@
 -- Outcomes that were heard of while a search went on, and what was told of them.
-use Rattle.std.specs.Prelude.{ℕ, suc, ◌+◌, ◌<◌, ◌≡◌, List, [], ◌∷◌, ◌++◌, Bool, true, IfErr, Option, drop, length, slice_get, Some, Result, Ok, Err}
+use Rattle.std.specs.Prelude.{ℕ, suc, ◌+◌, ◌<◌, ◌≡◌, List, [], ◌∷◌, ◌++◌, Bool, false, true, IfErr, Option, drop, length, slice_get, Some, Result, Ok, Err}
 use Rattle.std.specs.Io.KnownBytes.{Appends}
 use Rattle.std.proofs.KnownBytes.{Appends-nil, Appends-trans}
 use Rattle.std.proofs.Common.{refl, sym, ap, ◌∙◌, subst, arith, inl, inr}
 use Rattle.std.proofs.lemmas.List.{append-nil, append_assoc}
-use Rattle.std.proofs.lemmas.Option.{slice_get_within}
+use Rattle.std.proofs.lemmas.Option.{same_Some, slice_get_within}
 use Rattle.rv_image_types.specs.declared.images.ImageParts.{ImageParts}
-use Rattle.cl_explore.specs.Listening.{IsEndNode}
+use Rattle.cl_order_laws.specs.Closed.{Node}
+use Rattle.cl_explore.specs.Listening.{IsEndNode, IsNeedNode}
 use Rattle.cl_explore.specs.declared.kept.KeptNode.{KeptNode}
+use Rattle.cl_replay.specs.States.{ClusterStandsFor}
 use Rattle.rvmc_report.specs.Report.{newline}
-use Rattle.rvmc_explore.specs.InnerOutcomes.{AreHeard, BeginsWith, IsNewEnd, IsOutcomeOf, bodies_told}
-use Rattle.rvmc_explore.specs.Outcomes.{HasBody, IsEndBody, IsEndOutcome}
+use Rattle.rvmc_explore.specs.InnerOutcomes.{AreHeard, BeginsWith, IsHeard, IsNew, IsOutcomeOf, bodies_told}
+use Rattle.rvmc_explore.specs.Outcomes.{HasBody, IsEndBody, IsNeedBody}
 use Rattle.rvmc_explore.specs.Telling.{AddsOutcome, AddsOutcomes, IsBegun, Tells, outcome_number}
 use Rattle.rvmc_explore.specs.InnerTelling.{WereTold}
 use Rattle.rvmc_explore.specs.declared.outcomes.Outcome.{Outcome}
 use Rattle.rvmc_explore.proofs.Listed.{added_apart, end_outcome, was_or_added}
+use Rattle.rvmc_explore.proofs.ToEnds.{heard_way}
 
 -- ---- an end that was heard of
 
@@ -26,13 +29,44 @@ end_inside image order kept node (nodes, are, end) =
 
 pub new_outcome : (image : ImageParts) (order : List ℕ) (kept : List KeptNode) (node : ℕ) (body : List ℕ)
     (told : List Outcome) (outcome : Outcome) → IsEndNode image order kept node → IsEndBody order image kept node body
-    → IsOutcomeOf kept node body 0 outcome → (HasBody told body → ⊥) → IsNewEnd order image told outcome
+    → IsOutcomeOf kept node body 0 false outcome → (HasBody told body → ⊥) → IsNew order image told outcome
 new_outcome image order kept node body told outcome (nodes, are, end) is of unlike = record {
-  is = end_outcome order image kept nodes are node end outcome of.leads
-      (subst (IsEndBody order image kept node) (sym of.body_is) is);
+  is = inl (end_outcome order image kept nodes are node end outcome of.leads
+      (subst (IsEndBody order image kept node) (sym of.body_is) is) of.need_is);
   uncounted = of.ends_are;
   new = λ has. unlike (subst (HasBody told) of.body_is has);
 }
+
+-- ---- ranks that need buffers that were heard of
+
+-- their node is there
+pub need_inside : (image : ImageParts) (order : List ℕ) (kept : List KeptNode) (node : ℕ) (ranks : List ℕ)
+    → IsNeedNode image order kept node ranks → node < length kept
+need_inside image order kept node ranks (nodes, are, there) =
+    let inside = slice_get_within nodes node there.0 there.1 in omega (arith, inside, are.many)
+
+pub new_need : (image : ImageParts) (order : List ℕ) (kept : List KeptNode) (node : ℕ) (ranks body : List ℕ)
+    (told : List Outcome) (outcome : Outcome) → IsNeedNode image order kept node ranks
+    → IsNeedBody image kept node ranks body → IsOutcomeOf kept node body 0 true outcome → (HasBody told body → ⊥)
+    → IsNew order image told outcome
+new_need image order kept node ranks body told outcome (nodes, are, there) is of unlike =
+    let it = is.is in
+    let v = are.each node it.what it.there in
+    let same : v.0 ≡ there.0 = same_Some v.0 there.0 (sym v.1 ∙ there.1) in
+    record {
+      is = inr (record {
+        node = there.0;
+        led = of.leads image order nodes there.0 are there.1;
+        ranks = ranks;
+        need = there.2;
+        state = is.state;
+        stands = subst (λ (n : Node). ClusterStandsFor image is.state n.cluster) same ((v.2).stands is.state it.same);
+        told = of.body_is ∙ is.spelled;
+        of_need = of.need_is;
+      });
+      uncounted = of.ends_are;
+      new = λ has. unlike (subst (HasBody told) of.body_is has);
+    }
 
 -- ---- lists of them
 
@@ -48,12 +82,12 @@ none_heard order image told none =
     }
 
 pub heard_more : (order : List ℕ) (image : ImageParts) (old new : List Outcome) (outcome : Outcome)
-    → IsNewEnd order image old outcome → new ≡ old ++ outcome ∷ [] → AreHeard order image old
+    → IsNew order image old outcome → new ≡ old ++ outcome ∷ [] → AreHeard order image old
     → AreHeard order image new
 heard_more order image old new outcome one is heard = record {
   each = λ k other at. elim (was_or_added old new outcome one.new is k other at) [
     | inl was ↦ heard.each k other was
-    | inr last ↦ subst (λ (o : Outcome). IsEndOutcome order image o) last.1 one.is
+    | inr last ↦ subst (λ (o : Outcome). IsHeard order image o) last.1 one.is
   ];
   uncounted = λ k other at. elim (was_or_added old new outcome one.new is k other at) [
     | inl was ↦ heard.uncounted k other was
@@ -163,9 +197,7 @@ pub begun_by : (order : List ℕ) (image : ImageParts) (told : List Outcome) (te
     → AddsOutcomes 1 told [] text → IsBegun image order text
 begun_by order image told text heard lines = record {
   told = told;
-  each = λ k outcome at.
-      let is = heard.each k outcome at in
-      (outcome.way, is.node, is.led, record { state = is.state; stands = is.stands; spelled = inl is.told });
+  each = λ k outcome at. heard_way image order outcome (heard.each k outcome at);
   apart = heard.apart;
   lines = lines;
 }

@@ -21,8 +21,8 @@ use Rattle.cl_explore.specs.declared.kept.KeptNode.{KeptNode}
 use Rattle.cl_replay.specs.States.{ClusterStandsFor}
 use Rattle.rvmc_starts.specs.declared.parts.EndText.{EndText}
 use Rattle.rvmc_explore.specs.Ends.{IsEndText}
-use Rattle.rvmc_explore.specs.InnerOutcomes.{AddsEnd, AddsOne, AddsStuck, AreHeard, AreToldBeside, AreToldEnds, BeginsWith, HaveRoom, IsOutcomeOf, bodies_told, one_end_more}
-use Rattle.rvmc_explore.specs.Outcomes.{AreApart, AreCounted, AreTold, HasBody, IsEndBody, IsEndOutcome, IsOutcome, IsStuckBody, LeadThere, TellsStuck, ends_with}
+use Rattle.rvmc_explore.specs.InnerOutcomes.{AddsEnd, AddsOne, AddsStuck, AreHeard, AreToldBeside, AreToldEnds, BeginsWith, HaveRoom, IsHeard, IsOutcomeOf, bodies_told, one_end_more}
+use Rattle.rvmc_explore.specs.Outcomes.{AreApart, AreCounted, AreTold, HasBody, IsEndBody, IsEndOutcome, IsNeedOutcome, IsOutcome, IsStuckBody, LeadThere, TellsStuck, ends_with}
 use Rattle.rvmc_explore.specs.Searched.{AreSound, GoesTo, IsExplored, IsWithin}
 use Rattle.rvmc_explore.specs.Starting.{AreEndsTold, IsEndTold}
 use Rattle.rvmc_explore.specs.Telling.{AddsOutcome, AddsOutcomes}
@@ -104,10 +104,10 @@ module _ (kept : List KeptNode) (old new : List Outcome) (node : ℕ) (body : Li
 
   -- it was there, or it is this one
   was_one : (k : ℕ) (outcome : Outcome) → slice_get new k ≡ Some outcome
-      → (slice_get old k ≡ Some outcome) ⊎ IsOutcomeOf kept node body ends outcome
+      → (slice_get old k ≡ Some outcome) ⊎ IsOutcomeOf kept node body ends false outcome
   was_one k outcome at = elim (was_or_added old new (adds.1).0 unlike_others (adds.1).2 k outcome at) [
     | inl was ↦ inl was
-    | inr last ↦ inr (subst (IsOutcomeOf kept node body ends) last.1 (adds.1).1)
+    | inr last ↦ inr (subst (IsOutcomeOf kept node body ends false) last.1 (adds.1).1)
   ]
 
   by_one : Grows old new body
@@ -117,7 +117,7 @@ module _ (kept : List KeptNode) (old new : List Outcome) (node : ℕ) (body : Li
 abbrev WasAt : List Outcome → ℕ → Outcome → Type 0
 WasAt old k outcome =
     (before : Outcome) × (slice_get old k ≡ Some before) × (before.way ≡ outcome.way)
-    × (before.body.items ≡ outcome.body.items)
+    × (before.body.items ≡ outcome.body.items) × (before.need ≡ outcome.need)
 
 -- other counts leave the texts as they are
 same_bodies : (told : List Outcome) (place : ℕ) (one other : Outcome) → slice_get told place ≡ Some one
@@ -155,8 +155,9 @@ module _ (old new : List Outcome) (place : ℕ) (one : Outcome) (at_place : slic
       subst (λ n. slice_get old n ≡ Some one) here.0 at_place,
       ap (λ (o : Outcome). o.way) here.1,
       ap (λ (o : Outcome). o.body.items) here.1,
+      ap (λ (o : Outcome). o.need) here.1,
     )
-    | inr other ↦ (outcome, other.1, refl, refl)
+    | inr other ↦ (outcome, other.1, refl, refl, refl)
   ]
 
   stays_there : (text : List ℕ) → HasBody old text → HasBody new text
@@ -189,11 +190,11 @@ by_end kept old new node body (inr adds) = by_one kept old new node body 1 adds
 
 was_end : (kept : List KeptNode) (old new : List Outcome) (node : ℕ) (body : List ℕ) → AddsEnd kept old node body new
     → (k : ℕ) (outcome : Outcome) → slice_get new k ≡ Some outcome
-    → WasAt old k outcome ⊎ IsOutcomeOf kept node body 1 outcome
+    → WasAt old k outcome ⊎ IsOutcomeOf kept node body 1 false outcome
 was_end kept old new node body (inl (place, at, counts)) k outcome there =
     inl (was_there old new place at.0 at.1 (counts at.0 at.1) k outcome there)
 was_end kept old new node body (inr adds) k outcome there = elim (was_one kept old new node body 1 adds k outcome there) [
-  | inl was ↦ inl (outcome, was, refl, refl)
+  | inl was ↦ inl (outcome, was, refl, refl, refl)
   | inr one ↦ inr one
 ]
 
@@ -209,28 +210,50 @@ by_stuck kept old new node body (inr adds) = by_one kept old new node body 0 add
 
 was_stuck : (kept : List KeptNode) (old new : List Outcome) (node : ℕ) (body : List ℕ) → AddsStuck kept old node body new
     → (k : ℕ) (outcome : Outcome) → slice_get new k ≡ Some outcome
-    → (slice_get old k ≡ Some outcome) ⊎ IsOutcomeOf kept node body 0 outcome
+    → (slice_get old k ≡ Some outcome) ⊎ IsOutcomeOf kept node body 0 false outcome
 was_stuck kept old new node body (inl same) k outcome at = inl (subst (λ os. slice_get os k ≡ Some outcome) same.1 at)
 was_stuck kept old new node body (inr adds) k outcome at = was_one kept old new node body 0 adds k outcome at
 
 -- an end's outcome is one, however many ends it has
 of_same_end : (order : List ℕ) (image : ImageParts) (one other : Outcome) → one.way ≡ other.way
-    → one.body.items ≡ other.body.items → IsEndOutcome order image one → IsEndOutcome order image other
-of_same_end order image one other way body is = record {
+    → one.body.items ≡ other.body.items → one.need ≡ other.need → IsEndOutcome order image one
+    → IsEndOutcome order image other
+of_same_end order image one other way body need is = record {
   node = is.node;
   led = subst (λ es. IsWay (by_order order) (first_node image) es is.node) way is.led;
   end = is.end;
   state = is.state;
   stands = is.stands;
   told = subst (IsEndText order image is.state []) body is.told;
+  no_need = sym need ∙ is.no_need;
 }
+
+-- and so is that of ranks that need buffers
+of_same_need : (order : List ℕ) (image : ImageParts) (one other : Outcome) → one.way ≡ other.way
+    → one.body.items ≡ other.body.items → one.need ≡ other.need → IsNeedOutcome order image one
+    → IsNeedOutcome order image other
+of_same_need order image one other way body need is = record {
+  node = is.node;
+  led = subst (λ es. IsWay (by_order order) (first_node image) es is.node) way is.led;
+  ranks = is.ranks;
+  need = is.need;
+  state = is.state;
+  stands = is.stands;
+  told = sym body ∙ is.told;
+  of_need = sym need ∙ is.of_need;
+}
+
+of_same : (order : List ℕ) (image : ImageParts) (one other : Outcome) → one.way ≡ other.way
+    → one.body.items ≡ other.body.items → one.need ≡ other.need → IsHeard order image one → IsHeard order image other
+of_same order image one other way body need (inl end) = inl (of_same_end order image one other way body need end)
+of_same order image one other way body need (inr needs) = inr (of_same_need order image one other way body need needs)
 
 -- what turns lead to where nobody goes on, and whose text is told there, is one of an end
 pub end_outcome : (order : List ℕ) (image : ImageParts) (kept : List KeptNode) (nodes : List Node)
     → AreNodes image order kept nodes → (number : ℕ) → IsEndAt order nodes number → (outcome : Outcome)
-    → LeadThere kept number outcome.way → IsEndBody order image kept number outcome.body.items
+    → LeadThere kept number outcome.way → IsEndBody order image kept number outcome.body.items → outcome.need ≡ false
     → IsEndOutcome order image outcome
-end_outcome order image kept nodes are number end outcome leads body =
+end_outcome order image kept nodes are number end outcome leads body no_need =
     let it = body.is in
     let v = are.each number it.what it.there in
     let same : v.0 ≡ end.0 = same_Some v.0 end.0 (sym v.1 ∙ end.1) in
@@ -241,6 +264,7 @@ end_outcome order image kept nodes are number end outcome leads body =
       state = body.state;
       stands = subst (λ (n : Node). ClusterStandsFor image body.state n.cluster) same ((v.2).stands body.state it.same);
       told = body.told;
+      no_need = no_need;
     }
 
 -- ---- how many ends have a text
@@ -344,7 +368,7 @@ pub record BodiesSoFar (order : List ℕ) (image : ImageParts) (found : Findings
 
 pub record EndsSoFar (order : List ℕ) (image : ImageParts) (found : Findings) (heard : List Outcome) (count : ℕ)
     (told : List Outcome) : Type 0 where
-  pub each : (k : ℕ) (outcome : Outcome) → slice_get told k ≡ Some outcome → IsEndOutcome order image outcome
+  pub each : (k : ℕ) (outcome : Outcome) → slice_get told k ≡ Some outcome → IsHeard order image outcome
   pub apart : AreApart told
   pub texts : BodiesSoFar order image found count told
   pub begins : BeginsWith heard told
@@ -407,10 +431,9 @@ one_end order image found explored heard count node body old new at is adds so_f
     let its = explored.1 in
     record {
       each = λ k outcome there. elim (was_end found.kept old new node body adds k outcome there) [
-        | inl was ↦ of_same_end order image was.0 outcome was.2 was.3 (so_far.each k was.0 was.1)
-        | inr one ↦
-            end_outcome order image found.kept its.nodes its.are node (its.sound count node at) outcome one.leads
-            (subst (IsEndBody order image found.kept node) (sym one.body_is) is)
+        | inl was ↦ of_same order image was.0 outcome was.2 was.3 was.4 (so_far.each k was.0 was.1)
+        | inr one ↦ inl (end_outcome order image found.kept its.nodes its.are node (its.sound count node at) outcome
+            one.leads (subst (IsEndBody order image found.kept node) (sym one.body_is) is) one.need_is)
       ];
       apart = grows.still_apart so_far.apart;
       texts = texts_more order image found count node body old new at is adds so_far.apart so_far.texts;
@@ -445,10 +468,15 @@ pub record StuckSoFar (order : List ℕ) (image : ImageParts) (found : Findings)
       → GoesTo found.leads found.ends company.node ⊎ TellsStuck image found.kept told company
   pub begins : BeginsWith heard told
 
+as_outcome : (order : List ℕ) (image : ImageParts) (found : Findings) (outcome : Outcome) → IsHeard order image outcome
+    → IsOutcome order image found outcome
+as_outcome order image found outcome (inl end) = inl end
+as_outcome order image found outcome (inr need) = inr (inr need)
+
 pub ends_alone : (order : List ℕ) (image : ImageParts) (found : Findings) (heard told : List Outcome)
     → AreToldEnds order image found told → BeginsWith heard told → StuckSoFar order image found heard 0 told
 ends_alone order image found heard told are begun = record {
-  each = λ k outcome at. inl (are.each k outcome at);
+  each = λ k outcome at. as_outcome order image found outcome (are.each k outcome at);
   apart = are.apart;
   counted = are.counted;
   stuck = λ k company low at. absurd (omega (arith, low));
@@ -492,14 +520,15 @@ one_company order image found heard count marks company old new at sound (inr mo
     record {
       each = λ k outcome there. elim (was_stuck found.kept old new company.node body adds k outcome there) [
         | inl was ↦ so_far.each k outcome was
-        | inr one ↦ inr (
+        | inr one ↦ inr (inl (
           count,
           company,
           at,
           one.leads,
           subst (IsStuckBody image found.kept company) (sym one.body_is) is,
           one.ends_are,
-        )
+          one.need_is,
+        ))
       ];
       apart = grows.still_apart so_far.apart;
       counted = still_counted order image found old new company.node body adds so_far.counted;

@@ -1,7 +1,7 @@
 -- What is told of one image and one order is one, where no state is left.
 use Rattle.std.specs.Prelude.{ℕ, suc, ◌<◌, ◌≡◌, ◌++◌, ◌||◌, ◌==◌, List, [], ◌∷◌, Bool, true, false, Option, Some, None, length, map, not, slice_get}
 use Rattle.std.specs.List.{list_any}
-use Rattle.std.proofs.Common.{refl, sym, ap, ◌∙◌, subst, arith}
+use Rattle.std.proofs.Common.{refl, sym, ap, ◌∙◌, subst, arith, inl, inr}
 use Rattle.std.proofs.lemmas.Bool.{eqb-true}
 use Rattle.std.proofs.lemmas.List.Folds.{list_any_at}
 use Rattle.std.proofs.lemmas.Option.{get_or_from_slice_get, same_Some, slice_get_within}
@@ -23,10 +23,10 @@ use Rattle.cl_explore.specs.declared.kept.KeptNode.{KeptNode}
 use Rattle.cl_explore.proofs.Lists.{at_inside}
 use Rattle.cl_replay.specs.Kept.{Snapshot}
 use Rattle.rvmc_report.specs.Report.{has_trapped}
-use Rattle.rvmc_explore.specs.Endless.{AllMayEnd, SaysUnending, SomeNeverEnds}
+use Rattle.rvmc_explore.specs.Endless.{AllMayEnd, NeverNeeds, SaysUnending, SomeNeverEnds}
 use Rattle.rvmc_explore.specs.Ends.{one_waits, IsWaitText, any_waits}
 use Rattle.rvmc_explore.specs.OneList.{LeadsToText, OneListLaw, TellsEnd, lines_from}
-use Rattle.rvmc_explore.specs.Outcomes.{IsListOf}
+use Rattle.rvmc_explore.specs.Outcomes.{IsListOf, IsOutcome, any_need}
 use Rattle.rvmc_explore.specs.Recorded.{Leads, LeadsTo, numbered}
 use Rattle.rvmc_explore.proofs.Listed.{end_told}
 use Rattle.rvmc_explore.proofs.ToEnds.{numbered_at, told_way}
@@ -72,6 +72,19 @@ module _ (image : ImageParts) (order : List ℕ) (states turns : ℕ) (told : Li
             ∙ none in
             subst (λ b. IsWaitText b image (body.2).state text.waiting) waits text.told;
       }
+
+-- ---- ranks that need buffers
+
+-- where runs never come to any, no outcome of any search is of such ranks
+unneeded : (image : ImageParts) (order : List ℕ) (found : Findings) (outcome : Outcome)
+    → NeverNeeds image order (first_node image) → IsOutcome order image found outcome → outcome.need ≡ true → ⊥
+unneeded image order found outcome never (inl end) is = let no : true ≡ false = sym is ∙ end.no_need in absurd (cc)
+unneeded image order found outcome never (inr (inl stuck)) is = let no : true ≡ false = sym is ∙ stuck.6 in absurd (cc)
+unneeded image order found outcome never (inr (inr needs)) is =
+    let there = (needs.node).cluster in
+    let count = (comes_reached image outcome.way there (needs.led).run).count in
+    never outcome.way there (needs.led).run (needs.led).follow needs.ranks
+    (subst (AreBelow needs.ranks) count (needs.need).are_ranks) (needs.need).need
 
 -- ---- the status
 
@@ -232,6 +245,17 @@ leads_to_text image order told number steps leads =
       told_at = led.2.told_at;
     }
 
+-- no list tells of ranks that need buffers where runs never come to any
+none_needed : (image : ImageParts) (order : List ℕ) (more longer : ℕ) (other : List Outcome)
+    → IsListOf image order more longer other → NeverNeeds image order (first_node image) → any_need other ≡ false
+none_needed image order more longer other listed never = of (any_need other) refl
+  where
+    of : (b : Bool) → any_need other ≡ b → any_need other ≡ false
+    of false is = is
+    of true is =
+        let one = any_some (λ (outcome : Outcome). outcome.need) other is in
+        absurd (unneeded image order listed.found one.1 never ((listed.are).each one.0 one.1 one.2) one.3)
+
 pub one_list_law : OneListLaw
 one_list_law = record {
   each = λ image order states turns told listed k outcome at.
@@ -257,22 +281,25 @@ one_list_law = record {
         led.2.run,
         λ is. tells_end image order more longer other listed whole led.2.turns (led.2.node).cluster way.run way.follow is,
       );
+  none_need = λ image order states turns more longer text status other one whole waiting listed.
+      none_needed image order more longer other listed (one.none_need whole waiting);
   statuses = λ image order states turns more longer text other status its right harts one whole two all.
       let unending = bools one.unending two.unending
       (unending_there image order states turns more longer text other status its right harts one whole two all)
       (unending_there image order more longer states turns other text its status right harts two all one whole) in (
         unending,
-        status_same ((one.listed).found).left ((two.listed).found).left status its
+        λ needs. status_same ((one.listed).found).left ((two.listed).found).left status its
             (any_end trapped_in ((one.listed).found).kept ((one.listed).found).ends)
-            (has_stuck order (one.listed).found) one.unending
+            (has_stuck order (one.listed).found || any_need one.told) one.unending
             (any_end trapped_in ((two.listed).found).kept ((two.listed).found).ends)
-            (has_stuck order (two.listed).found) two.unending whole all one.status_is two.status_is
+            (has_stuck order (two.listed).found || any_need two.told) two.unending whole all one.status_is two.status_is
             (bools _ _
             (traps_there image order states turns more longer text other status its right harts one whole two all)
             (traps_there image order more longer states turns other text its status right harts two all one whole))
-            (bools _ _
+            (λ i. bools _ _
             (stuck_there image order states turns more longer text other status its right harts one whole two all)
-            (stuck_there image order more longer states turns other text its status right harts two all one whole))
+            (stuck_there image order more longer states turns other text its status right harts two all one whole) i
+            || needs i)
             unending,
       );
 }

@@ -7,8 +7,9 @@ use Rattle.cl_machine.specs.declared.steps.Step.{Step}
 use Rattle.cl_order_laws.specs.Closed.{Node}
 use Rattle.cl_moves.specs.Standing.{IsWay, by_order, first_node}
 use Rattle.cl_explore.specs.Ends.{ExploredFrom, Findings}
+use Rattle.rvmc_explore.specs.InnerOutcomes.{IsHeard}
 use Rattle.rvmc_explore.specs.InnerRecorded.{IsInOrder, RecordsIn}
-use Rattle.rvmc_explore.specs.Outcomes.{AreTold, IsEndOutcome, IsOutcome, IsStuckBody, IsTextAt}
+use Rattle.rvmc_explore.specs.Outcomes.{AreTold, IsEndOutcome, IsNeedOutcome, IsOutcome, IsStuckBody, IsTextAt}
 use Rattle.rvmc_explore.specs.Recorded.{Leads, LeadsTo, RecordsEnd, numbered}
 use Rattle.rvmc_explore.specs.Searched.{IsSearched}
 use Rattle.rvmc_explore.specs.Starting.{IsListFrom, RecordsEndBehind}
@@ -24,6 +25,19 @@ pub text_of_end : (image : ImageParts) (order : List ℕ) (outcome : Outcome) �
     → IsTextAt image order (is.node).cluster outcome.body.items
 text_of_end image order outcome is = record { state = is.state; stands = is.stands; spelled = inl is.told }
 
+-- and so is that of ranks that need buffers
+text_of_need : (image : ImageParts) (order : List ℕ) (outcome : Outcome) → (is : IsNeedOutcome order image outcome)
+    → IsTextAt image order (is.node).cluster outcome.body.items
+text_of_need image order outcome is =
+    record { state = is.state; stands = is.stands; spelled = inr (inr (is.ranks, is.need, is.told)) }
+
+-- turns lead to where the text of an outcome is told that was heard of
+pub heard_way : (image : ImageParts) (order : List ℕ) (outcome : Outcome) → IsHeard order image outcome
+    → (steps : List Step) × (node : Node) × IsWay (by_order order) (first_node image) steps node
+    × IsTextAt image order node.cluster outcome.body.items
+heard_way image order outcome (inl end) = (outcome.way, end.node, end.led, text_of_end image order outcome end)
+heard_way image order outcome (inr needs) = (outcome.way, needs.node, needs.led, text_of_need image order outcome needs)
+
 module _ (image : ImageParts) (order : List ℕ) (start : Node) (found : Findings)
     (explored : ExploredFrom image order start found) where
   -- and that of ranks that are stuck in a node is told there
@@ -34,15 +48,16 @@ module _ (image : ImageParts) (order : List ℕ) (start : Node) (found : Finding
       record {
         state = is.state;
         stands = stands_kept image order start found explored company.node kept.what node is.state kept.there there kept.same;
-        spelled = inr (company.ranks.items, is.spelled);
+        spelled = inr (inl (company.ranks.items, is.spelled));
       }
 
   -- turns lead to where an outcome's text is told
   pub told_way : (outcome : Outcome) → IsOutcome order image found outcome
       → (steps : List Step) × (node : Node) × IsWay (by_order order) (first_node image) steps node
       × IsTextAt image order node.cluster outcome.body.items
-  told_way outcome (inl end) = (outcome.way, end.node, end.led, text_of_end image order outcome end)
-  told_way outcome (inr stuck) =
+  told_way outcome (inl end) = heard_way image order outcome (inl end)
+  told_way outcome (inr (inr needs)) = heard_way image order outcome (inr needs)
+  told_way outcome (inr (inl stuck)) =
       let company = stuck.1 in
       let kept = stuck.4.is in
       let v = (explored.are).each company.node kept.what kept.there in (
@@ -66,7 +81,18 @@ module _ (image : ImageParts) (order : List ℕ) (start : Node) (found : Finding
         outcome_at = inl end.end;
         told_at = text_of_end image order outcome end;
       }
-  leads_to outcome steps limits sorted (inr stuck) =
+  leads_to outcome steps limits sorted (inr (inr needs)) =
+      let its = sorted image (needs.node).cluster limits (needs.led).run in
+      record {
+        node = needs.node;
+        turns = outcome.way;
+        way = needs.led;
+        sorted = its.0;
+        run = its.1;
+        outcome_at = inr (inr (needs.ranks, needs.need));
+        told_at = text_of_need image order outcome needs;
+      }
+  leads_to outcome steps limits sorted (inr (inl stuck)) =
       let company = stuck.1 in
       let e = explored.stuck limits stuck.0 company stuck.2 in
       let way = stuck.3 image order explored.nodes e.0 explored.are e.1 in
@@ -77,7 +103,7 @@ module _ (image : ImageParts) (order : List ℕ) (start : Node) (found : Finding
         way = way;
         sorted = its.0;
         run = its.1;
-        outcome_at = inr (company.ranks.items, e.2);
+        outcome_at = inr (inl (company.ranks.items, e.2));
         told_at = text_of_stuck company outcome.body.items e.0 stuck.4 e.1;
       }
 

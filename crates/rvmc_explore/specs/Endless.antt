@@ -1,13 +1,16 @@
--- What a search says of runs of any length, finished or not: whether they can still end, and whether ranks are stuck.
+-- What a search says of runs of any length, finished or not: whether they can still end, and whether ranks are stuck or need
+-- buffers.
 use Rattle.std.specs.Prelude.{ℕ, ◌≡◌, Bool, true, false, List, length, slice_get, Some}
 use Rattle.rv_image_types.specs.declared.images.ImageParts.{ImageParts}
 use Rattle.cl_machine.specs.Cluster.{Cluster, IsRun}
 use Rattle.cl_machine.specs.declared.steps.Step.{Step}
-use Rattle.cl_order_laws.specs.Closed.{FollowPlans, Node, had_after}
+use Rattle.cl_order_laws.specs.Closed.{FollowPlans, IsEnd, Node, had_after}
 use Rattle.cl_outcome_laws.specs.Companies.{IsCompany}
 use Rattle.cl_outcome_laws.specs.Unending.{MayEnd, NeverEnds}
 use Rattle.cl_explore.specs.Below.{AreBelow}
 use Rattle.cl_deadlock_laws.specs.Stuck.{IsReachable}
+use Rattle.cl_rest_laws.specs.Buffering.{NeedBuffers}
+use Rattle.cl_rest_laws.specs.Ends.{IsEndWhereSendsWait}
 use Rattle.cl_explore.specs.Below.{IsOrder}
 use Rattle.cl_moves.specs.Standing.{IsWay, by_order, first_node, node_of}
 use Rattle.cl_explore.specs.Covering.{HasLead}
@@ -50,6 +53,30 @@ NeverStuck image order start =
 -- where no company was found and no state is left, that is so
 abbrev pub SaysNoneStuck : ImageParts → List ℕ → Node → ℕ → List Company → Type 0
 SaysNoneStuck image order start left companies = left ≡ 0 → length companies ≡ 0 → NeverStuck image order start
+
+-- ---- ranks that need buffers
+
+-- no run by the order from here, of any length, comes to a cluster in which ranks of the image need buffers
+abbrev pub NeverNeeds : ImageParts → List ℕ → Node → Type 0
+NeverNeeds image order start =
+    (steps : List Step) (end : Cluster) → IsRun start.cluster steps end → FollowPlans (by_order order) start.had steps
+    → (ranks : List ℕ) → AreBelow ranks image.ranks → ¬ NeedBuffers ranks end
+
+-- where standard sends might wait for their receives and no state is left, that is so
+abbrev pub SaysNoneNeed : ImageParts → List ℕ → Node → ℕ → Bool → Type 0
+SaysNoneNeed image order start left may_wait = left ≡ 0 → may_wait ≡ true → NeverNeeds image order start
+
+-- wherever a run by the order leads from here: if nobody has to go on there in a machine in which each SEND waits for its receive
+-- or goes on, in any choice, nobody goes on anyway. So the ends of that machine are those of this one
+abbrev pub EndsAnyway : List ℕ → Node → Type 0
+EndsAnyway order start =
+    (steps : List Step) (end : Cluster) → IsRun start.cluster steps end → FollowPlans (by_order order) start.had steps
+    → IsEndWhereSendsWait (by_order order) end
+    → IsEnd (by_order order) end
+
+-- where standard sends might wait and no state is left, that is so
+abbrev pub SaysEndsAnyway : List ℕ → Node → ℕ → Bool → Type 0
+SaysEndsAnyway order start left may_wait = left ≡ 0 → may_wait ≡ true → EndsAnyway order start
 
 -- ---- which nodes lead to no end
 

@@ -1,22 +1,26 @@
 -- Outcomes on the way: those that were heard of while a search went on, and lists to which more are added.
-use Rattle.std.specs.Prelude.{ℕ, ◌+◌, ◌^◌, ◌<◌, ◌≡◌, ◌⊎◌, List, [], ◌∷◌, ◌++◌, Bool, true, map, slice_get, slice_set, Some}
+use Rattle.std.specs.Prelude.{ℕ, ◌+◌, ◌^◌, ◌<◌, ◌≡◌, ◌⊎◌, List, [], ◌∷◌, ◌++◌, Bool, false, true, map, slice_get, slice_set, Some}
 use Rattle.rv_image_types.specs.declared.images.ImageParts.{ImageParts}
 use Rattle.cl_explore.specs.Ends.{Findings}
 use Rattle.cl_explore.specs.declared.companies.Company.{Company}
 use Rattle.cl_explore.specs.declared.kept.KeptNode.{KeptNode}
-use Rattle.rvmc_explore.specs.Outcomes.{AreApart, AreCounted, HasBody, IsEndOutcome, IsStuckBody, LeadThere}
+use Rattle.rvmc_explore.specs.Outcomes.{AreApart, AreCounted, HasBody, IsEndOutcome, IsNeedOutcome, IsStuckBody, LeadThere}
 use Rattle.rvmc_explore.specs.declared.outcomes.Outcome.{Outcome}
 
--- outcomes that were heard of, however far a search came: each is one of an end, whose ends aren't counted yet, and no two
--- have the same text
+-- one of an end, or of ranks that need buffers
+abbrev pub IsHeard : List ℕ → ImageParts → Outcome → Type 0
+IsHeard order image outcome = IsEndOutcome order image outcome ⊎ IsNeedOutcome order image outcome
+
+-- outcomes that were heard of, however far a search came: each is such a one, its ends aren't counted yet, and no two have the
+-- same text
 pub record AreHeard (order : List ℕ) (image : ImageParts) (told : List Outcome) : Type 0 where
-  pub each : (k : ℕ) (outcome : Outcome) → slice_get told k ≡ Some outcome → IsEndOutcome order image outcome
+  pub each : (k : ℕ) (outcome : Outcome) → slice_get told k ≡ Some outcome → IsHeard order image outcome
   pub uncounted : (k : ℕ) (outcome : Outcome) → slice_get told k ≡ Some outcome → outcome.ends ≡ 0
   pub apart : AreApart told
 
 -- one more of these
-pub record IsNewEnd (order : List ℕ) (image : ImageParts) (told : List Outcome) (outcome : Outcome) : Type 0 where
-  pub is : IsEndOutcome order image outcome
+pub record IsNew (order : List ℕ) (image : ImageParts) (told : List Outcome) (outcome : Outcome) : Type 0 where
+  pub is : IsHeard order image outcome
   pub uncounted : outcome.ends ≡ 0
   pub new : HasBody told outcome.body.items → ⊥
 
@@ -32,17 +36,20 @@ BeginsWith first told = (more : List (List ℕ)) × (bodies_told told ≡ bodies
 abbrev pub IsBodyAt : List Outcome → List ℕ → ℕ → Type 0
 IsBodyAt told body place = (outcome : Outcome) × (slice_get told place ≡ Some outcome) × (outcome.body.items ≡ body)
 
--- the outcome at the node of this number, with this text, which so many ends have
-pub record IsOutcomeOf (kept : List KeptNode) (node : ℕ) (body : List ℕ) (ends : ℕ) (outcome : Outcome) : Type 0 where
+-- the outcome at the node of this number, with this text, which so many ends have, and whether it is of ranks that need
+-- buffers
+pub record IsOutcomeOf (kept : List KeptNode) (node : ℕ) (body : List ℕ) (ends : ℕ) (need : Bool) (outcome : Outcome)
+    : Type 0 where
   pub leads : LeadThere kept node outcome.way
   pub body_is : outcome.body.items ≡ body
   pub ends_are : outcome.ends ≡ ends
+  pub need_is : outcome.need ≡ need
 
 -- it stands behind the others, none of which has its text
 abbrev pub AddsOne : List KeptNode → List Outcome → ℕ → List ℕ → ℕ → List Outcome → Type 0
 AddsOne kept old node body ends new =
     (HasBody old body → ⊥)
-    × ((outcome : Outcome) × IsOutcomeOf kept node body ends outcome × (new ≡ old ++ outcome ∷ []))
+    × ((outcome : Outcome) × IsOutcomeOf kept node body ends false outcome × (new ≡ old ++ outcome ∷ []))
 
 abbrev pub one_end_more : Outcome → Outcome
 one_end_more outcome = record outcome { ends = outcome.ends + 1 }
@@ -65,9 +72,9 @@ AddsStuck kept old node body new = (HasBody old body × (new ≡ old)) ⊎ AddsO
 abbrev pub HaveRoom : List Outcome → Type 0
 HaveRoom told = (k : ℕ) (outcome : Outcome) → slice_get told k ≡ Some outcome → outcome.ends + 1 < 2 ^ 64
 
--- the ends alone
+-- the ends, and the ranks that need buffers which were heard of
 pub record AreToldEnds (order : List ℕ) (image : ImageParts) (found : Findings) (told : List Outcome) : Type 0 where
-  pub each : (k : ℕ) (outcome : Outcome) → slice_get told k ≡ Some outcome → IsEndOutcome order image outcome
+  pub each : (k : ℕ) (outcome : Outcome) → slice_get told k ≡ Some outcome → IsHeard order image outcome
   pub apart : AreApart told
   pub counted : AreCounted order image found told
 

@@ -1,4 +1,5 @@
 pub mod Ends
+pub mod Needs
 pub mod Searched
 pub mod Marks
 pub mod Endless

@@ -1,5 +1,5 @@
 -- That what is told of one image and one order is one, where no state is left.
-use Rattle.std.specs.Prelude.{ℕ, suc, ◌≡◌, ◌++◌, List, [], Bool, false, slice_get, Some}
+use Rattle.std.specs.Prelude.{ℕ, suc, ◌≡◌, ◌++◌, List, [], Bool, false, true, slice_get, Some}
 use Rattle.std.specs.List.{enumerate_from, flat_map, list_any}
 use Rattle.rv_image_types.specs.Image.{IsImage}
 use Rattle.rv_image_types.specs.declared.images.ImageParts.{ImageParts}
@@ -11,7 +11,7 @@ use Rattle.cl_explore.specs.Below.{IsOrder}
 use Rattle.cl_moves.specs.Standing.{IsWay, by_order, first_node}
 use Rattle.cl_explore.specs.Ends.{AreAlikeEnds}
 use Rattle.rvmc_explore.specs.Ends.{end_rank_text, one_waits}
-use Rattle.rvmc_explore.specs.Outcomes.{HasBody, IsEndBody, IsListOf, IsTextAt}
+use Rattle.rvmc_explore.specs.Outcomes.{HasBody, IsEndBody, IsListOf, IsTextAt, any_need}
 use Rattle.rvmc_explore.specs.Recorded.{RecordsEnd}
 use Rattle.rvmc_explore.specs.Starting.{RecordsEndBehind}
 use Rattle.rvmc_explore.specs.Telling.{Tells}
@@ -88,15 +88,23 @@ pub record OneListLaw : Type 0 where
   pub record_leads_from : (image : ImageParts) (start : Start) (states turns number : ℕ) (steps : List Step)
       → (recorded : RecordsEndBehind image start states turns number (Some steps))
       → LeadsToText image start.harts recorded.told number steps
-  -- it leads to an end that is told in the other list, unless ranks are stuck there while others run on
+  -- it leads to an end that is told in the other list, unless somebody goes on there: others beside ranks that are stuck, or
+  -- ranks that need buffers
   pub records : (image : ImageParts) (order : List ℕ) (states turns more longer number : ℕ) (steps : List Step)
       (other : List Outcome) → RecordsEnd image order states turns number (Some steps)
       → (listed : IsListOf image order more longer other) → (listed.found).left ≡ 0
       → (end : Cluster) × IsRun (loaded_cluster image) steps end
       × (IsEnd (by_order order) end → TellsEnd image order more longer other listed end)
-  -- both say that some runs go on for ever, or neither, and both have the same status
+  -- if standard sends might wait in a search that left no state, no list tells of ranks that need buffers, with whatever
+  -- bounds. Otherwise a list tells of those that its search found first, and of none if sends were to buffer
+  pub none_need : (image : ImageParts) (order : List ℕ) (states turns more longer : ℕ) (text : List ℕ) (status : ℕ)
+      (other : List Outcome) → (one : Tells image order states turns text status) → (((one.listed).found).left ≡ 0)
+      → (((one.listed).found).may_wait ≡ true) → IsListOf image order more longer other
+      → any_need other ≡ false
+  -- both say that some runs go on for ever, or neither; and both have the same status if both tell of ranks that need buffers,
+  -- or neither does
   pub statuses : (image : ImageParts) (order : List ℕ) (states turns more longer : ℕ) (text other : List ℕ)
       (status its : ℕ) → IsImage image → IsOrder image.harts order
       → (one : Tells image order states turns text status) → (((one.listed).found).left ≡ 0)
       → (two : Tells image order more longer other its) → (((two.listed).found).left ≡ 0)
-      → (one.unending ≡ two.unending) × (status ≡ its)
+      → (one.unending ≡ two.unending) × (any_need one.told ≡ any_need two.told → status ≡ its)

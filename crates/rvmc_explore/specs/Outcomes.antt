@@ -1,6 +1,6 @@
--- The outcomes that `explore` lists: ends, and ranks that are stuck while others run on.
-use Rattle.std.specs.Prelude.{ℕ, ◌≡◌, ◌⊎◌, List, [], length, slice_get, Some}
-use Rattle.std.specs.List.{count_by}
+-- The outcomes that `explore` lists: ends, ranks that are stuck while others run on, and ranks that need buffers.
+use Rattle.std.specs.Prelude.{ℕ, ◌≡◌, ◌⊎◌, List, [], Bool, false, true, length, slice_get, Some}
+use Rattle.std.specs.List.{count_by, list_any}
 use Rattle.std.specs.Str.{bytes_eq}
 use Rattle.rv_image_types.specs.declared.images.ImageParts.{ImageParts}
 use Rattle.cl_order_laws.specs.Closed.{IsEnd, Node}
@@ -13,8 +13,10 @@ use Rattle.cl_machine.specs.Cluster.{Cluster}
 use Rattle.cl_machine.specs.declared.steps.Step.{Step}
 use Rattle.cl_replay.specs.States.{ClusterStandsFor}
 use Rattle.cl_replay.specs.declared.states.ClusterState.{ClusterState}
+use Rattle.cl_rests.specs.Needing.{IsNeed}
 use Rattle.rvmc_picture.specs.Below.{company_text}
 use Rattle.rvmc_explore.specs.Ends.{IsEndText}
+use Rattle.rvmc_explore.specs.Needs.{need_text}
 use Rattle.rvmc_explore.specs.Searched.{GoesTo, IsSearched}
 use Rattle.rvmc_explore.specs.There.{IsKeptState}
 use Rattle.rvmc_explore.specs.declared.outcomes.Outcome.{Outcome}
@@ -33,11 +35,19 @@ pub record IsStuckBody (image : ImageParts) (kept : List KeptNode) (company : Co
   pub is : IsKeptState kept company.node state
   pub spelled : body ≡ company_text image state company.ranks.items
 
--- a text is told of this cluster: that of an end, or of ranks that are stuck there
+-- the text of ranks that need buffers at the node of this number
+pub record IsNeedBody (image : ImageParts) (kept : List KeptNode) (node : ℕ) (ranks body : List ℕ) : Type 0 where
+  pub state : ClusterState
+  pub is : IsKeptState kept node state
+  pub spelled : body ≡ need_text image state ranks
+
+-- a text is told of this cluster: that of an end, of ranks that are stuck there, or of the most that need buffers there
 pub record IsTextAt (image : ImageParts) (order : List ℕ) (cluster : Cluster) (body : List ℕ) : Type 0 where
   pub state : ClusterState
   pub stands : ClusterStandsFor image state cluster
-  pub spelled : IsEndText order image state [] body ⊎ ((ranks : List ℕ) × (body ≡ company_text image state ranks))
+  pub spelled : IsEndText order image state [] body
+      ⊎ (((ranks : List ℕ) × (body ≡ company_text image state ranks))
+      ⊎ ((ranks : List ℕ) × IsNeed ranks cluster × (body ≡ need_text image state ranks)))
 
 -- the turns lead to whichever node is kept at this number
 abbrev pub LeadThere : List KeptNode → ℕ → List Step → Type 0
@@ -53,16 +63,29 @@ pub record IsEndOutcome (order : List ℕ) (image : ImageParts) (outcome : Outco
   pub state : ClusterState
   pub stands : ClusterStandsFor image state node.cluster
   pub told : IsEndText order image state [] outcome.body.items
+  pub no_need : outcome.need ≡ false
+
+-- or of the most ranks that are held up together, and need buffers, where they lead by the order
+pub record IsNeedOutcome (order : List ℕ) (image : ImageParts) (outcome : Outcome) : Type 0 where
+  pub node : Node
+  pub led : IsWay (by_order order) (first_node image) outcome.way node
+  pub ranks : List ℕ
+  pub need : IsNeed ranks node.cluster
+  pub state : ClusterState
+  pub stands : ClusterStandsFor image state node.cluster
+  pub told : outcome.body.items ≡ need_text image state ranks
+  pub of_need : outcome.need ≡ true
 
 -- or of a company that is stuck in a node that was found, to which they lead, and whose text no end has
 abbrev pub IsStuckOutcome : ImageParts → Findings → Outcome → Type 0
 IsStuckOutcome image found outcome =
     (k : ℕ) × (company : Company) × (slice_get found.companies k ≡ Some company)
     × LeadThere found.kept company.node outcome.way
-    × IsStuckBody image found.kept company outcome.body.items × (outcome.ends ≡ 0)
+    × IsStuckBody image found.kept company outcome.body.items × (outcome.ends ≡ 0) × (outcome.need ≡ false)
 
 abbrev pub IsOutcome : List ℕ → ImageParts → Findings → Outcome → Type 0
-IsOutcome order image found outcome = IsEndOutcome order image outcome ⊎ IsStuckOutcome image found outcome
+IsOutcome order image found outcome =
+    IsEndOutcome order image outcome ⊎ (IsStuckOutcome image found outcome ⊎ IsNeedOutcome order image outcome)
 
 -- ---- all of them
 
@@ -75,6 +98,10 @@ abbrev pub AreApart : List Outcome → Type 0
 AreApart told =
     (i j : ℕ) (one other : Outcome) → slice_get told i ≡ Some one → slice_get told j ≡ Some other
     → one.body.items ≡ other.body.items → i ≡ j
+
+-- one of them is of ranks that need buffers
+abbrev pub any_need : List Outcome → Bool
+any_need told = list_any (λ outcome. outcome.need) told
 
 -- the text of these ranks is told
 abbrev pub TellsStuck : ImageParts → List KeptNode → List Outcome → Company → Type 0

@@ -1,5 +1,5 @@
 -- What `explore` prints.
-use Rattle.std.specs.Prelude.{ℕ, ◌+◌, ◌≡◌, ◌++◌, ◌==◌, ◌||◌, List, [], ◌∷◌, Bool, false, nat_lt, not, Option, Some, None, codes, if◌then◌else◌, length, slice_get}
+use Rattle.std.specs.Prelude.{ℕ, ◌+◌, ◌≡◌, ◌++◌, ◌==◌, ◌||◌, List, [], ◌∷◌, Bool, false, nat_lt, true, not, Option, Some, None, codes, if◌then◌else◌, length, slice_get}
 use Rattle.std.specs.Fmt.{decimal}
 use Rattle.std.specs.List.{enumerate_from, flat_map, list_any}
 use Rattle.rv_image_types.specs.declared.images.ImageParts.{ImageParts}
@@ -10,9 +10,9 @@ use Rattle.cl_explore.specs.Ends.{Findings}
 use Rattle.cl_explore.specs.declared.companies.Company.{Company}
 use Rattle.cl_explore.specs.declared.kept.KeptNode.{KeptNode}
 use Rattle.rvmc_report.specs.Report.{has_trapped, newline}
-use Rattle.rvmc_explore.specs.Endless.{SaysNoneStuck, SaysUnending}
+use Rattle.rvmc_explore.specs.Endless.{SaysEndsAnyway, SaysNoneNeed, SaysNoneStuck, SaysUnending}
 use Rattle.rvmc_explore.specs.Ends.{one_waits}
-use Rattle.rvmc_explore.specs.Outcomes.{AreApart, IsListOf, IsTextAt}
+use Rattle.rvmc_explore.specs.Outcomes.{AreApart, IsListOf, IsTextAt, any_need}
 use Rattle.rvmc_explore.specs.declared.outcomes.Outcome.{Outcome}
 
 -- ---- one outcome
@@ -69,9 +69,14 @@ want left (Some rank) turns =
     codes "not all: rank " ++ (decimal rank ++ (codes " takes more than " ++ (decimal turns ++ codes " turns alone")))
 want left None turns = codes "not all: " ++ (decimal left ++ codes " states are left")
 
+-- where standard sends mightn't wait for their receives, ranks may need buffers of which nothing is told
+abbrev pub none_other : Bool → List ℕ
+none_other true = codes "no other outcome"
+none_other false = codes "no other outcome with buffered sends"
+
 -- `no other outcome` only where no state is left whose moves weren't made
-abbrev pub verdict : ℕ → Option ℕ → ℕ → List ℕ
-verdict left long turns = if (left == 0) then codes "no other outcome" else want left long turns
+abbrev pub verdict : ℕ → Bool → Option ℕ → ℕ → List ℕ
+verdict left may_wait long turns = if (left == 0) then none_other may_wait else want left long turns
 
 -- where some state leads to no end
 abbrev pub unending_line : Bool → List ℕ
@@ -83,9 +88,9 @@ counts_text outcomes states =
     count_text outcomes (codes "outcome") ++ (codes " of " ++ count_text states (codes "state"))
 
 -- `2 outcomes of 20 states: no other outcome`
-abbrev pub last_line : ℕ → ℕ → ℕ → Option ℕ → ℕ → List ℕ
-last_line outcomes states left long turns =
-    counts_text outcomes states ++ (codes ": " ++ (verdict left long turns ++ newline))
+abbrev pub last_line : ℕ → ℕ → ℕ → Bool → Option ℕ → ℕ → List ℕ
+last_line outcomes states left may_wait long turns =
+    counts_text outcomes states ++ (codes ": " ++ (verdict left may_wait long turns ++ newline))
 
 -- ---- the status
 
@@ -105,8 +110,8 @@ holds_of p (Some node) = p node
 abbrev pub any_end : (KeptNode → Bool) → List KeptNode → List ℕ → Bool
 any_end p kept ends = list_any (λ node. holds_of p (slice_get kept node)) ends
 
--- 4 where not all is told, else 3 where a hart trapped at an end, else 7 where one waits for ever, else 8 where some runs
--- go on for ever, else 0
+-- 4 where not all is told, else 3 where a hart trapped at an end, else 7 where one waits for ever or ranks need buffers, else
+-- 8 where some runs go on for ever, else 0
 abbrev pub search_status : ℕ → Bool → Bool → Bool → ℕ
 search_status left trapped stuck unending =
     if (left == 0) then (if trapped then 3 else (if stuck then 7 else (if unending then 8 else 0))) else 4
@@ -118,15 +123,16 @@ is_some_company companies = not (length companies == 0)
 abbrev pub has_stuck : List ℕ → Findings → Bool
 has_stuck order found = any_end (waits_in order) found.kept found.ends || is_some_company found.companies
 
-abbrev pub findings_status : List ℕ → Findings → Bool → ℕ
-findings_status order found unending =
-    search_status found.left (any_end trapped_in found.kept found.ends) (has_stuck order found) unending
+abbrev pub findings_status : List ℕ → Findings → List Outcome → Bool → ℕ
+findings_status order found told unending =
+    search_status found.left (any_end trapped_in found.kept found.ends) (has_stuck order found || any_need told) unending
 
 -- ---- the whole
 
 -- each outcome that is told is one to which a run by the order leads, no two have the same text, and they are all where it
 -- says so, as it does unless the moves of as many states as are allowed were made, or a rank took more turns by itself.
--- Runs of any length come to what is told of those that never end, and of ranks that are stuck
+-- Runs of any length come to what is told of those that never end, of ranks that are stuck, and where standard sends might
+-- wait, of ranks that need buffers
 pub record Tells (image : ImageParts) (order : List ℕ) (states turns : ℕ) (text : List ℕ) (status : ℕ) : Type 0 where
   pub told : List Outcome
   pub listed : IsListOf image order states turns told
@@ -134,11 +140,13 @@ pub record Tells (image : ImageParts) (order : List ℕ) (states turns : ℕ) (t
   pub unending : Bool
   pub unending_is : SaysUnending image order (first_node image) (listed.found).left unending
   pub none_stuck : SaysNoneStuck image order (first_node image) (listed.found).left (listed.found).companies
+  pub none_need : SaysNoneNeed image order (first_node image) (listed.found).left (listed.found).may_wait
+  pub ends_anyway : SaysEndsAnyway order (first_node image) (listed.found).left (listed.found).may_wait
   pub body : List ℕ
   pub lines : AddsOutcomes 1 told [] body
   pub spelled : text
       ≡ body
       ++ (ends_lines 1 told
       ++ (unending_line unending
-      ++ last_line (length told) (length (listed.found).kept) (listed.found).left long turns))
-  pub status_is : status ≡ findings_status order listed.found unending
+      ++ last_line (length told) (length (listed.found).kept) (listed.found).left (listed.found).may_wait long turns))
+  pub status_is : status ≡ findings_status order listed.found told unending

@@ -1,7 +1,7 @@
 //! The last line: whether the outcomes are all.
 
 ghost use Rattle.std.specs.Prelude.{◌≡◌, IfOk, length, string_bytes};
-ghost use Rattle.rvmc_explore.specs.Telling.{count_text, counts_text, last_line, verdict, want};
+ghost use Rattle.rvmc_explore.specs.Telling.{count_text, counts_text, last_line, none_other, verdict, want};
 
 use cl_explore::Exploration;
 use std::alloc::{AllocError, Global};
@@ -27,12 +27,29 @@ fn want(alloc: Global, left: usize, long: Option<u8>, turns: u64) -> Result<Stri
     }
 }
 
+/// That all outcomes were told: with buffered sends, where standard sends mightn't wait for their receives in the search.
+fn none_other(alloc: Global, may_wait: bool) -> Result<String, AllocError>
+    ensures { IfOk result (λ text. string_bytes text ≡ none_other may_wait) }
+{
+    if may_wait {
+        format!(in alloc; "no other outcome")
+    } else {
+        format!(in alloc; "no other outcome with buffered sends")
+    }
+}
+
 /// Whether all outcomes were told, or why not.
-fn verdict(alloc: Global, left: usize, long: Option<u8>, turns: u64) -> Result<String, AllocError>
-    ensures { IfOk result (λ text. string_bytes text ≡ verdict left long turns) }
+fn verdict(
+    alloc: Global,
+    left: usize,
+    may_wait: bool,
+    long: Option<u8>,
+    turns: u64,
+) -> Result<String, AllocError>
+    ensures { IfOk result (λ text. string_bytes text ≡ verdict left may_wait long turns) }
 {
     if left == 0 {
-        format!(in alloc; "no other outcome")
+        none_other(alloc, may_wait)
     } else {
         want(alloc, left, long, turns)
     }
@@ -55,9 +72,9 @@ pub(crate) fn last_line(
     turns: u64,
 ) -> Result<String, AllocError>
     ensures { IfOk result (λ text. string_bytes text
-        ≡ last_line outcomes (length found.now.nodes.items) found.now.left found.now.long turns) }
+        ≡ last_line outcomes (length found.now.nodes.items) found.now.left found.now.may_wait found.now.long turns) }
 {
     let counts = counts(alloc, outcomes, found.nodes.len())?;
-    let verdict = verdict(alloc, found.left, found.long, turns)?;
+    let verdict = verdict(alloc, found.left, found.may_wait, found.long, turns)?;
     format!(in alloc; "{counts}: {verdict}\n")
 }

@@ -5,9 +5,11 @@ ghost use Rattle.std.specs.List.{list_any};
 ghost use Rattle.rvmc_report.specs.Report.{has_trapped, is_trapped};
 ghost use Rattle.rvmc_explore.specs.Ends.{one_waits};
 ghost use Rattle.cl_explore.specs.Ends.{findings};
+ghost use Rattle.rvmc_explore.specs.Outcomes.{any_need};
 ghost use Rattle.rvmc_explore.specs.Telling.{any_end, holds_of, findings_status, trapped_in, waits_in};
 
 use crate::ends::waits;
+use crate::outcomes::Outcome;
 use cl_explore::{Exploration, KeptNode};
 use cl_replay::SharedRank;
 use cl_state::KeptRank;
@@ -71,10 +73,23 @@ fn any_waits(nodes: &[KeptNode], order: &[u8], ends: &[usize]) -> bool
     ends.iter().any(|node| waits_in(nodes, order, *node))
 }
 
-/// The status of a search: 4 where not all is told, else 3 where a hart trapped at an end, else 7 where a hart that takes turns
-/// waits at one, or some ranks are stuck, else 8 where some runs go on for ever, else 0.
-pub(crate) fn search_status(found: &Exploration, order: &[u8], unending: bool) -> u8
-    ensures { result ≡ findings_status order.now (findings found.now) unending }
+/// Whether one of these is of ranks that need buffers.
+fn any_need(told: &[Outcome]) -> bool
+    ensures { result ≡ any_need told.now }
+{
+    told.iter().any(|outcome| outcome.need)
+}
+
+/// The status of a search of which this is told: 4 where not all is told, else 3 where a hart trapped at an end, else 7 where a
+/// hart that takes turns waits at one, some ranks are stuck, or it is told that ranks need buffers, else 8 where some runs go on
+/// for ever, else 0.
+pub(crate) fn search_status(
+    found: &Exploration,
+    order: &[u8],
+    told: &[Outcome],
+    unending: bool,
+) -> u8
+    ensures { result ≡ findings_status order.now (findings found.now) told.now unending }
 {
     if found.left > 0 {
         return 4;
@@ -84,7 +99,7 @@ pub(crate) fn search_status(found: &Exploration, order: &[u8], unending: bool) -
     if any_trapped(nodes, ends) {
         return 3;
     }
-    if any_waits(nodes, order, ends) || found.companies.len() > 0 {
+    if any_waits(nodes, order, ends) || found.companies.len() > 0 || any_need(told) {
         return 7;
     }
     if unending { 8 } else { 0 }

@@ -1,5 +1,5 @@
-//! What a search of all orders tells, as text: each end, ranks that are stuck while others run on, the first message by which
-//! one differs from the first one, and whether these are all; and a record of one.
+//! What a search of all orders tells, as text: each end, ranks that are stuck while others run on, ranks that need buffers, the
+//! first message by which one differs from the first one, and whether these are all; and a record of one.
 #![tactic(auto)]
 
 mod asked;
@@ -11,6 +11,7 @@ mod heads;
 mod hearing;
 mod judging;
 pub mod laws;
+mod needs;
 mod outcomes;
 mod putting;
 mod recording;

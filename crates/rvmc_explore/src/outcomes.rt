@@ -1,13 +1,14 @@
-//! The outcomes that `explore` lists: ends, and ranks that are stuck while others run on.
+//! The outcomes that `explore` lists: ends, ranks that are stuck while others run on, and ranks that need buffers.
 
-ghost use Rattle.std.specs.Prelude.{◌≡◌, ◌<◌, ◌↔◌, IfNone, IfOk, IfSome, OnOk, length, true};
+ghost use Rattle.std.specs.Prelude.{◌≡◌, ◌<◌, ◌↔◌, ℕ, IfNone, IfOk, IfSome, List, OnOk, length, true};
 ghost use Rattle.cl_explore.specs.Ends.{findings};
-ghost use Rattle.cl_explore.specs.Listening.{IsEndNode};
-ghost use Rattle.rvmc_explore.specs.InnerOutcomes.{AddsEnd, AddsStuck, AreHeard, AreToldBeside, AreToldEnds, BeginsWith, CountsOne, HaveRoom, IsBodyAt, IsNewEnd, IsOutcomeOf};
-ghost use Rattle.rvmc_explore.specs.Outcomes.{AreTold, HasBody, IsEndBody, IsStuckBody};
+ghost use Rattle.cl_explore.specs.Listening.{IsEndNode, IsNeedNode};
+ghost use Rattle.rvmc_explore.specs.InnerOutcomes.{AddsEnd, AddsStuck, AreHeard, AreToldBeside, AreToldEnds, BeginsWith, CountsOne, HaveRoom, IsBodyAt, IsNew, IsOutcomeOf};
+ghost use Rattle.rvmc_explore.specs.Outcomes.{AreTold, HasBody, IsEndBody, IsNeedBody, IsStuckBody};
 ghost use Rattle.rvmc_explore.specs.Searched.{IsExplored, IsWithin};
 
 use crate::ends::put_end;
+use crate::needs::put_need;
 use crate::telling::state_at;
 use crate::unending::leading_to;
 use cl_explore::{Company, Exploration, KeptNode, Runs, steps_to};
@@ -16,7 +17,7 @@ use rv_image_types::Image;
 use rvmc_picture::put_company;
 use std::alloc::{AllocError, Global};
 
-/// What is told of a state that was found: an end, or ranks that are stuck there while others run on.
+/// What is told of a state that was found: an end, ranks that are stuck there while others run on, or ranks that need buffers.
 #[derive(Drop)]
 pub struct Outcome {
     /// The turns that lead there from the loaded cluster.
@@ -25,6 +26,8 @@ pub struct Outcome {
     pub body: Vec<u8>,
     /// How many of the ends that were found have this text: 0 if it is that of ranks that are stuck.
     pub ends: usize,
+    /// Whether it is of ranks that need buffers.
+    pub need: bool,
 }
 
 impl Outcome {
@@ -72,6 +75,23 @@ fn stuck_body(
     Ok(body)
 }
 
+/// All that is told of these ranks, which need buffers at the node of this number.
+fn need_body(
+    alloc: Global,
+    image: &Image,
+    nodes: &[KeptNode],
+    node: usize,
+    ranks: &[u8],
+) -> Result<Vec<u8>, AllocError>
+    requires { node < length nodes.now }
+    ensures { IfOk result (λ body. IsNeedBody image.now nodes.now node ranks.now body.items) }
+{
+    let state = state_at(alloc, nodes, node)?;
+    let mut body = Vec::new(alloc);
+    put_need(alloc, &mut body, image, &state, ranks)?;
+    Ok(body)
+}
+
 /// Whether this is the text of the outcome.
 fn is_body(outcome: &Outcome, body: &[u8]) -> bool
     ensures { (result ≡ true) ↔ (outcome.now.body.items ≡ body.now) }
@@ -92,19 +112,26 @@ fn place_of(told: &[Outcome], body: &[u8]) -> Option<usize>
     None
 }
 
-/// The outcome at the node of this number, with this text, which so many ends have.
+/// The outcome at the node of this number, with this text, which so many ends have, and whether it is of ranks that need
+/// buffers.
 fn outcome_of(
     alloc: Global,
     nodes: &[KeptNode],
     node: usize,
     body: Vec<u8>,
     ends: usize,
+    need: bool,
 ) -> Result<Outcome, AllocError>
-    ensures { IfOk result (IsOutcomeOf nodes.now node body.items ends) }
+    ensures { IfOk result (IsOutcomeOf nodes.now node body.items ends need) }
 {
     let steps = steps_to(alloc, nodes, node)?;
     let way = Runs::of(alloc, steps.as_slice())?;
-    Ok(Outcome { way, body, ends })
+    Ok(Outcome {
+        way,
+        body,
+        ends,
+        need,
+    })
 }
 
 /// The outcome of the end at the node of this number, before its ends are counted. None where its text is told already.
@@ -117,13 +144,33 @@ pub(crate) fn new_end(
     node: usize,
 ) -> Result<Option<Outcome>, AllocError>
     requires { IsEndNode image.now order.now nodes.now node }
-    ensures { IfOk result (λ o. IfSome o (IsNewEnd order.now image.now told.now)) }
+    ensures { IfOk result (λ o. IfSome o (IsNew order.now image.now told.now)) }
 {
     let body = end_body(alloc, image, order, nodes, node)?;
     if place_of(told, body.as_slice()).is_some() {
         return Ok(None);
     }
-    Ok(Some(outcome_of(alloc, nodes, node, body, 0)?))
+    Ok(Some(outcome_of(alloc, nodes, node, body, 0, false)?))
+}
+
+/// The outcome of these ranks, which need buffers at the node of this number. None where its text is told already.
+pub(crate) fn new_need(
+    alloc: Global,
+    image: &Image,
+    told: &[Outcome],
+    nodes: &[KeptNode],
+    node: usize,
+    ranks: &[u8],
+) -> Result<Option<Outcome>, AllocError>
+    requires { node < length nodes.now }
+    ensures { (order : List ℕ) → IsNeedNode image.now order nodes.now node ranks.now
+        → IfOk result (λ o. IfSome o (IsNew order image.now told.now)) }
+{
+    let body = need_body(alloc, image, nodes, node, ranks)?;
+    if place_of(told, body.as_slice()).is_some() {
+        return Ok(None);
+    }
+    Ok(Some(outcome_of(alloc, nodes, node, body, 0, true)?))
 }
 
 /// Counts one end more of the outcome at this place.
@@ -149,7 +196,7 @@ fn add_end(
     match place_of(told.as_slice(), body.as_slice()) {
         Some(place) => count_one(told.as_mut_slice(), place),
         None => {
-            let outcome = outcome_of(alloc, nodes, node, body, 1)?;
+            let outcome = outcome_of(alloc, nodes, node, body, 1, false)?;
             told.push(outcome)?;
         }
     }
@@ -169,12 +216,12 @@ fn add_stuck(
     if place_of(told.as_slice(), body.as_slice()).is_some() {
         return Ok(());
     }
-    let outcome = outcome_of(alloc, nodes, node, body, 0)?;
+    let outcome = outcome_of(alloc, nodes, node, body, 0, false)?;
     told.push(outcome)?;
     Ok(())
 }
 
-/// What is told of each end that was found, behind what was heard of ends while it was searched.
+/// What is told of each end that was found, behind what was heard of while it was searched.
 fn tell_ends(
     alloc: Global,
     image: &Image,
@@ -217,8 +264,8 @@ fn tell_company(
     add_stuck(alloc, told, nodes, company.node, body)
 }
 
-/// All that is told: what was heard of ends while it was searched, each end that was found, and the ranks that are stuck in
-/// each node that leads to no end. No two have the same text: the first with a text stands for all, and says how many ends
+/// All that is told: what was heard of while it was searched, each end that was found, and the ranks that are stuck in each
+/// node that leads to no end. No two have the same text: the first with a text stands for all, and says how many ends
 /// that were found have it.
 pub(crate) fn tell(
     alloc: Global,

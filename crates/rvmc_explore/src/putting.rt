@@ -36,7 +36,7 @@ pub struct Searched {
     pub status: u8,
 }
 
-/// The search, and each end told as it is found, behind whatever the writer held.
+/// The search, and each end told as it is found, and ranks that need buffers, behind whatever the writer held.
 fn search_telling<K: Outset, O: Write, E: Write>(
     alloc: Global,
     image: &Image,
@@ -62,12 +62,13 @@ fn search_telling<K: Outset, O: Write, E: Write>(
         order: asked.order,
         most: asked.turns,
         progress: asked.progress,
+        buffered: asked.buffered,
     };
     explore(&course, image, asked.states, teller, err)
 }
 
-/// What is told behind ends that were told as they were found, and the status of the search: ends that weren't told yet, ranks
-/// that are stuck, how many ends look like an outcome, whether some runs go on for ever, and whether these are all.
+/// What is told behind what was told as it was found, and the status of the search: ends that weren't told yet, ranks that are
+/// stuck, how many ends look like an outcome, whether some runs go on for ever, and whether these are all.
 fn rest_of(
     alloc: Global,
     image: &Image,
@@ -92,16 +93,17 @@ fn rest_of(
     text.extend_from_slice(line.as_bytes())?;
     let last = last_line(alloc, found, told.len(), asked.turns)?;
     text.extend_from_slice(last.as_bytes())?;
-    let status = search_status(found, asked.order, unending);
+    let status = search_status(found, asked.order, told.as_slice(), unending);
     Ok(Told { text, status })
 }
 
 /// Writes each outcome of a search on `out` when it is found: for an end its ranks, and what each waits for that waits there;
-/// for ranks that are stuck while others run on, which come last, what they wait for; and the first message by which it differs
-/// from outcome 1. Behind them stands how many ends look like an outcome, if two or more do, whether some runs go on for ever,
-/// and in the last line whether the list is complete. No two outcomes have the same text. The status is 4 if the list isn't
-/// complete, else 3 if a hart trapped at an end, else 7 if a hart that takes turns waits at one, or some ranks are stuck, else 8
-/// if some runs go on for ever, else 0. If asked for, lines on `err` say how far the search came.
+/// for ranks that need buffers how they are held up; for ranks that are stuck while others run on, which come last, what they
+/// wait for; and the first message by which it differs from outcome 1. Behind them stands how many ends look like an outcome, if
+/// two or more do, whether some runs go on for ever, and in the last line whether the list is complete, or is so with buffered
+/// sends alone. No two outcomes have the same text. The status is 4 if the list isn't complete, else 3 if a hart trapped at an
+/// end, else 7 if a hart that takes turns waits at one, some ranks are stuck, or ranks need buffers, else 8 if some runs go on
+/// for ever, else 0. If asked for, lines on `err` say how far the search came.
 ///
 /// Refusals: Clock, Memory. Outcomes that were written before stay. If the writer doesn't take all, the result says so.
 #[tactic(auto, using(crate::proofs::Heard::cut_by, crate::proofs::Heard::whole_by))]

@@ -58,6 +58,7 @@ pub fn recorded<E: Write>(
         order: asked.order,
         most: asked.turns,
         progress: asked.progress,
+        buffered: asked.buffered,
     };
     let mut hearer = Hearer::new(alloc);
     let found = explore(&course, image, asked.states, &mut hearer, err)?;

@@ -175,6 +175,7 @@ pub fn split<E: Write>(
         order: asked.order,
         most: asked.turns,
         progress: asked.progress,
+        buffered: asked.buffered,
     };
     let found = searched_apart(&course, image, asked.states, least, err)?;
     let numbers = starts_of(alloc, &found)?;

@@ -45,8 +45,8 @@ impl From<AllocError> for StartFault {
     }
 }
 
-/// Of how many states a search from a start makes the moves at most, how many turns a rank takes by itself at once, and
-/// whether lines are wanted that say how far it came.
+/// Of how many states a search from a start makes the moves at most, how many turns a rank takes by itself at once, and whether
+/// lines are wanted that say how far it came.
 #[derive(Clone, Copy, Drop)]
 pub struct Reach {
     pub states: usize,
@@ -99,7 +99,8 @@ fn ends_told(alloc: Global, image: &Image, told: &[Outcome]) -> Result<Vec<EndTe
     Ok(ends)
 }
 
-/// A search from a start, in which ends are heard of as they are found.
+/// A search from a start, in which ends are heard of as they are found. Sends always buffer in it: ranks may need buffers before
+/// the start, where it doesn't look.
 ///
 /// Refusals: OtherImage, then NoTurn, and Memory.
 #[tactic(auto, using(cl_lines::proofs::Behind::nothing_told, crate::proofs::Heard::none_heard))]
@@ -128,6 +129,7 @@ fn searched<E: Write>(
         order: start.harts.as_slice(),
         most: reach.turns,
         progress: reach.progress,
+        buffered: true,
     };
     let turns = start.turns.as_slice();
     match explore_from(&course, image, turns, reach.states, hearer, err) {
@@ -137,8 +139,8 @@ fn searched<E: Write>(
     }
 }
 
-/// Searches from a start and writes what was found, under the start's name: each end, whether some runs go on for ever, and
-/// whether any order could lead from the start to another end.
+/// Searches from a start and writes what was found, under the start's name: each outcome, whether some runs go on for ever, and
+/// whether any order could lead from the start to another outcome.
 ///
 /// Refusals: OtherImage where the start is one of another image; NoTurn where its turns lead nowhere; Memory, also where a
 /// clock came to its end.
@@ -162,7 +164,7 @@ pub fn explored_from<E: Write>(
     let told = tell(alloc, image, order, &found, hearer.told)?;
     let ends = ends_told(alloc, image, told.as_slice())?;
     let unending = is_unending(alloc, &found)?;
-    let status = search_status(&found, order, unending);
+    let status = search_status(&found, order, told.as_slice(), unending);
     let part = Part {
         number: start.number,
         count: start.count,

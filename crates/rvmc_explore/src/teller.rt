@@ -1,13 +1,13 @@
-//! Ends that are told while a search goes on.
+//! Ends, and ranks that need buffers, that are told while a search goes on.
 
 ghost use Rattle.std.specs.Prelude.{◌≡◌, ◌+◌, [], ℕ, IfOk, List, None, Option, length, true};
 ghost use Rattle.std.specs.Io.KnownBytes.{Appends};
-ghost use Rattle.cl_explore.specs.Listening.{IsEndNode};
+ghost use Rattle.cl_explore.specs.Listening.{IsEndNode, IsNeedNode};
 ghost use Rattle.rvmc_explore.specs.InnerOutcomes.{AreHeard};
 ghost use Rattle.rvmc_explore.specs.InnerTelling.{WereTold};
 ghost use Rattle.rvmc_explore.specs.Telling.{AddsOutcome};
 
-use crate::outcomes::{Outcome, new_end};
+use crate::outcomes::{Outcome, new_end, new_need};
 use crate::telling::put_outcome;
 use cl_explore::{KeptNode, Listener};
 use rv_image_types::Image;
@@ -29,7 +29,7 @@ impl Outset for Brand {
     ghost before = { None };
 }
 
-/// Writes what is told of each end, as soon as its text is found.
+/// Writes what is told of each end, and of ranks that need buffers, as soon as its text is found.
 #[derive(Drop)]
 pub(crate) struct Teller<'a, O, K> {
     /// What was told, in its order.
@@ -100,6 +100,24 @@ impl<'a, O: Write, K: Outset> Listener for Teller<'a, O, K> {
         node: usize,
     ) -> Result<(), AllocError> {
         let Some(outcome) = new_end(alloc, image, order, self.told.as_slice(), nodes, node)? else {
+            return Ok(());
+        };
+        let text = text_of(alloc, image, self.told.as_slice(), &outcome)?;
+        self.told.push(outcome)?;
+        self.taken = put_behind(self.taken, self.out, text.as_slice());
+        Ok(())
+    }
+
+    fn need(
+        &mut self,
+        alloc: Global,
+        image: &Image,
+        _order: &[u8],
+        nodes: &[KeptNode],
+        node: usize,
+        ranks: &[u8],
+    ) -> Result<(), AllocError> {
+        let Some(outcome) = new_need(alloc, image, self.told.as_slice(), nodes, node, ranks)? else {
             return Ok(());
         };
         let text = text_of(alloc, image, self.told.as_slice(), &outcome)?;

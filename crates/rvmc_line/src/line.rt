@@ -86,13 +86,15 @@ pub enum ImageCommand {
     /// All ends are told, over all orders of the ranks' turns, of at most `states` states (1 to 16,777,216), where a rank
     /// takes at most `turns` turns (1 to 16,777,216) alone between two meetings; with `record` the record of the end of
     /// this number (1 to 18,446,744,073,709,551,615) is written, in place of the text. The harts of a rank take turns in
-    /// the order of `plan`, round and round; without it all take turns in order. With `progress` lines on standard error say
-    /// how far the search came. Whether a hart or such an end is there is not known here.
+    /// the order of `plan`, round and round; without it all take turns in order. With `buffered` it isn't asked whether ranks
+    /// need buffers. With `progress` lines on standard error say how far the search came. Whether a hart or such an end is
+    /// there is not known here.
     Explore {
         plan: Option<Numbers>,
         states: u64,
         turns: u64,
         record: Option<u64>,
+        buffered: bool,
         progress: bool,
     },
     /// Starts are written from which all ends can be searched apart: `count` (1 to 16,777,216) or more of them, as far as the
@@ -107,14 +109,15 @@ pub enum ImageCommand {
     },
     /// All ends are told to which some order leads behind `start`, whose harts are the plan, of at most `states` states (1 to
     /// 16,777,216), where a rank takes at most `turns` turns (1 to 16,777,216) alone between two meetings; with `record` the
-    /// record of the end of this number (1 to 18,446,744,073,709,551,615) is written, in place of the text. With
-    /// `progress` lines on standard error say how far the search came. Whether the start is one of the image, and such an end
-    /// is there, is not known here.
+    /// record of the end of this number (1 to 18,446,744,073,709,551,615) is written, in place of the text. With `buffered`
+    /// it isn't asked whether ranks need buffers. With `progress` lines on standard error say how far the search came.
+    /// Whether the start is one of the image, and such an end is there, is not known here.
     ExploreFrom {
         start: Start,
         states: u64,
         turns: u64,
         record: Option<u64>,
+        buffered: bool,
         progress: bool,
     },
 }

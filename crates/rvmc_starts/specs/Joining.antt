@@ -53,12 +53,13 @@ abbrev pub told_texts : ℕ → List ToldEnd → List ℕ
 told_texts number [] = []
 told_texts number (end ∷ ends) = told_text number end ++ told_texts (number + 1) ends
 
--- `no other end` only where each start is told whole
+-- `no other outcome with buffered sends` only where each start is told whole. Ranks may need buffers before a start, where no
+-- part looks for them
 abbrev pub verdict : Option ℕ → List ℕ
-verdict None = codes "no other outcome"
+verdict None = codes "no other outcome with buffered sends"
 verdict (Some start) = codes "not all: start " ++ (decimal start ++ codes " isn't told whole")
 
--- `3 ends of 45 states of 12 starts: no other end`
+-- `3 outcomes of 45 states of 12 starts: no other outcome with buffered sends`
 abbrev pub last_line : Found → List ℕ
 last_line found =
     summary found.ends found.states

@@ -38,11 +38,13 @@ end_text end = end.head ++ 10 ∷ (decimal (length end.body) ++ (codes " bytes\n
 
 -- ---- what stands below them
 
--- `: no other outcome from start 3 of 12` only where no state is left
+-- `: no other outcome with buffered sends from start 3 of 12` only where no state is left. A text of a start doesn't say
+-- whether ranks that need buffers were looked for
 abbrev pub verdict_of_part : Part → List ℕ
 verdict_of_part part =
     if (part.left == 0)
-    then codes ": no other outcome from start " ++ (decimal part.number ++ (codes " of " ++ decimal part.count))
+    then codes ": no other outcome with buffered sends from start "
+    ++ (decimal part.number ++ (codes " of " ++ decimal part.count))
     else (codes ": not all from start " ++ (decimal part.number ++ (codes " of " ++ (decimal part.count ++ (codes ": " ++ (decimal part.left ++ codes " states are left"))))))
 
 -- ---- the whole

@@ -141,17 +141,18 @@ fn all_states(parts: &[&Part]) -> u128
     sum
 }
 
-/// Whether these are all outcomes, or which start isn't told whole.
+/// Whether these are all outcomes, or which start isn't told whole. Ranks may need buffers before a start, where no part looks:
+/// so the outcomes are all with buffered sends.
 fn verdict(alloc: Global, lacking: Option<u64>) -> Result<String, AllocError>
     ensures { IfOk result (λ text. string_bytes text ≡ verdict lacking) }
 {
     match lacking {
-        None => format!(in alloc; "no other outcome"),
+        None => format!(in alloc; "no other outcome with buffered sends"),
         Some(start) => format!(in alloc; "not all: start {start} isn't told whole"),
     }
 }
 
-/// The last line: `3 outcomes of 45 states of 12 starts: no other outcome`.
+/// The last line: `3 outcomes of 45 states of 12 starts: no other outcome with buffered sends`.
 fn last_line(alloc: Global, found: &Found) -> Result<String, AllocError>
     ensures { IfOk result (λ text. string_bytes text ≡ last_line found.now) }
 {

@@ -205,13 +205,13 @@ fn verdict_of_part(alloc: Global, part: &Part) -> Result<String, AllocError>
     let count = part.count;
     let left = part.left;
     if left == 0 {
-        format!(in alloc; ": no other outcome from start {number} of {count}")
+        format!(in alloc; ": no other outcome with buffered sends from start {number} of {count}")
     } else {
         format!(in alloc; ": not all from start {number} of {count}: {left} states are left")
     }
 }
 
-/// Adds the last line: `2 outcomes of 20 states: no other outcome from start 3 of 12`.
+/// Adds the last line: `2 outcomes of 20 states: no other outcome with buffered sends from start 3 of 12`.
 fn put_last_line(alloc: Global, text: &mut Vec<u8>, part: &Part) -> Result<(), AllocError>
     ensures { OnOk result (text.new.items
         ≡ text.old.items ++ (summary (length part.now.ends) part.now.states ++ (verdict_of_part part.now ++ 10 ∷ []))) }

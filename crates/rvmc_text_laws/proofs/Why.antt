@@ -30,7 +30,7 @@ use Rattle.cl_replay.specs.States.{ClusterStandsFor}
 use Rattle.cl_replay.specs.declared.states.ClusterState.{ClusterState}
 use Rattle.cl_verdict_laws.proofs.Asking.{asking_law}
 use Rattle.cl_verdict_laws.proofs.Live.{live_law}
-use Rattle.cl_verdict_laws.proofs.Unpaired.{unpaired_law}
+use Rattle.cl_rest_laws.proofs.Unpaired.{unpaired_law}
 use Rattle.cl_verdict_laws.proofs.Verdicts.{verdict_law}
 use Rattle.rvmc_inspect.specs.Unreceived.{unreceived_text}
 use Rattle.rvmc_inspect.specs.Waits.{box_is_full}

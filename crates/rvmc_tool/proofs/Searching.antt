@@ -52,6 +52,6 @@ module _ (image : ImageParts) (harts : Option (List ℕ)) (states turns : ℕ) (
   refused_by number other is = absurd is
 
   -- outcomes that were found before memory was refused
-  pub cut_by : (progress : Bool) (text : List ℕ) → IsBegun image (listed harts image.harts) text
-      → IsCutSearch (Explore harts states turns None progress) image text
-  cut_by progress text begun = (by.0, by.1, (by.2, begun))
+  pub cut_by : (buffered progress : Bool) (text : List ℕ) → IsBegun image (listed harts image.harts) text
+      → IsCutSearch (Explore harts states turns None buffered progress) image text
+  cut_by buffered progress text begun = (by.0, by.1, (by.2, begun))

@@ -40,18 +40,18 @@ misplanned (One budget plan order written) image (plans, of, wrong) =
     (plans, of, record { told = λ right. absurd (wrong right); refused = λ _. (refl, refl) })
 misplanned (OneUntilStuck budget plan order written) image (plans, of, wrong) =
     (plans, of, record { told = λ right. absurd (wrong right); refused = λ _. (refl, refl) })
-misplanned (Explore plan states turns number progress) image (plans, of, wrong) =
+misplanned (Explore plan states turns number buffered progress) image (plans, of, wrong) =
     (plans, of, record { told = λ right. absurd (wrong right); refused = λ _. (refl, refl) })
 misplanned (Split plan count turns progress) image (plans, of, wrong) =
     (plans, of, record { told = λ right. absurd (wrong right); refused = λ _. (refl, refl) })
-misplanned (ExploreFrom start states turns number progress) image (plans, of, wrong) =
+misplanned (ExploreFrom start states turns number buffered progress) image (plans, of, wrong) =
     (plans, of, record { told = λ right. absurd (wrong right); refused = λ _. (refl, refl) })
 misplanned other image wrong = absurd wrong
 
 -- and so is the record of an end that isn't there, and a start that isn't one
 unexplored : (command : ImageCommand) (image : ImageParts) (refusal : ExploreRefusal) → IsUnexplored command image refusal
     → Makes command image [] 1
-unexplored (Explore plan states turns asked progress) image (refusals.NoOutcome number) (plans, of, (right, (is, none))) = (
+unexplored (Explore plan states turns asked buffered progress) image (refusals.NoOutcome k) (plans, of, (right, (is, none))) = (
   plans,
   of,
   record {
@@ -59,8 +59,8 @@ unexplored (Explore plan states turns asked progress) image (refusals.NoOutcome 
     refused = λ wrong. absurd (wrong right);
   },
 )
-unexplored (Explore plan states turns asked progress) image other (plans, of, (right, never)) = absurd never
-unexplored (ExploreFrom start states turns asked progress) image refusal (plans, of, (right, none)) =
+unexplored (Explore plan states turns asked buffered progress) image other (plans, of, (right, never)) = absurd never
+unexplored (ExploreFrom start states turns asked buffered progress) image refusal (plans, of, (right, none)) =
     (plans, of, record { told = λ _. inr ((refusal, none), (refl, refl)); refused = λ wrong. absurd (wrong right) })
 unexplored other image refusal unexplored_is = absurd unexplored_is
 

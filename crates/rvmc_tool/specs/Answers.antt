@@ -57,9 +57,10 @@ Makes (RunUntilStuck budget plan lead written) image text status =
 Makes (One budget plan order written) image text status = IsOne image budget plan order written text status
 Makes (OneUntilStuck budget plan order written) image text status =
     IsOneUntilStuck image budget plan order written text status
-Makes (Explore plan states turns number progress) image text status = IsExplored image plan states turns number text status
+Makes (Explore plan states turns number buffered progress) image text status =
+    IsExplored image plan states turns number text status
 Makes (Split plan count turns progress) image text status = IsSplitOf image plan count turns text status
-Makes (ExploreFrom start states turns number progress) image text status =
+Makes (ExploreFrom start states turns number buffered progress) image text status =
     IsExploredFrom image start states turns number text status
 
 -- what a command says that takes an image from the bytes, or with `source` a source

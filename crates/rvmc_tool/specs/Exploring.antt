@@ -14,7 +14,7 @@ use Rattle.rvmc_answers.specs.Images.{image_in}
 use Rattle.rvmc_answers.specs.Plans.{ByPlans, listed}
 
 -- the text of the record of the outcome of this number in the list of what is told: of a run by the order to a cluster where
--- nobody goes on, or some ranks are stuck
+-- nobody goes on, or some ranks are stuck, or need buffers
 pub record IsEndRecord (image : ImageParts) (order : List ℕ) (states turns number : ℕ) (text : List ℕ) : Type 0 where
   pub steps : List Step
   pub recorded : RecordsEnd image order states turns number (Some steps)
@@ -35,7 +35,7 @@ IsToldOfSearch image order states turns (Some number) text status =
 
 -- what is told of a search that is cut short: outcomes to which its order leads, by right plans
 abbrev pub IsCutSearch : ImageCommand → ImageParts → List ℕ → Type 0
-IsCutSearch (Explore plan states turns None progress) image text =
+IsCutSearch (Explore plan states turns None buffered progress) image text =
     ByPlans image turns plan (λ plans. HasPlans image plans × IsBegun image (listed plan image.harts) text)
 IsCutSearch other image text = ⊥
 

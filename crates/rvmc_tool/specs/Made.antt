@@ -18,7 +18,7 @@ use Rattle.rvmc_views.specs.Pieces.{IsMade, LeavesPieces}
 
 -- whether a command tells what a search of all orders finds, and no record of it
 abbrev pub tells_search : ImageCommand → Bool
-tells_search (Explore plan states turns None progress) = true
+tells_search (Explore plan states turns None buffered progress) = true
 tells_search other = false
 
 -- whether what a command answers is written as it is made, and never stands in memory as a whole: of a session, of a search,

@@ -55,19 +55,19 @@ IsMisplanned (One budget plan order written) image =
     ByPlans image budget plan (λ plans. ¬ (ArePlans image plans (listed order image.ranks)))
 IsMisplanned (OneUntilStuck budget plan order written) image =
     ByPlans image budget plan (λ plans. ¬ (ArePlans image plans (listed order image.ranks)))
-IsMisplanned (Explore plan states turns number progress) image =
+IsMisplanned (Explore plan states turns number buffered progress) image =
     ByPlans image turns plan (λ plans. ¬ (HasPlans image plans))
 IsMisplanned (Split plan count turns progress) image =
     ByPlans image turns plan (λ plans. ¬ (HasPlans image plans))
-IsMisplanned (ExploreFrom start states turns number progress) image =
+IsMisplanned (ExploreFrom start states turns number buffered progress) image =
     ByPlans image turns (Some start.harts) (λ plans. ¬ (HasPlans image plans))
 IsMisplanned other image = ⊥
 
 -- by a right plan there is no such end, or nothing is told of the start
 abbrev pub IsUnexplored : ImageCommand → ImageParts → ExploreRefusal → Type 0
-IsUnexplored (Explore plan states turns number progress) image refusal =
+IsUnexplored (Explore plan states turns number buffered progress) image refusal =
     ByPlans image turns plan (λ plans. HasPlans image plans × IsNoEnd image (listed plan image.harts) states turns number refusal)
-IsUnexplored (ExploreFrom start states turns number progress) image refusal =
+IsUnexplored (ExploreFrom start states turns number buffered progress) image refusal =
     ByPlans image turns (Some start.harts) (λ plans. HasPlans image plans × IsNoStart image start states turns number refusal)
 IsUnexplored other image refusal = ⊥
 

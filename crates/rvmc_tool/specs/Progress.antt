@@ -10,9 +10,9 @@ use Rattle.rvmc_line.specs.declared.line.ImageCommand.TheVariants.{Explore, Expl
 
 -- a search does, by `--progress`
 abbrev pub asks_progress : ImageCommand → Bool
-asks_progress (Explore plan states turns number progress) = progress
+asks_progress (Explore plan states turns number buffered progress) = progress
 asks_progress (Split plan count turns progress) = progress
-asks_progress (ExploreFrom start states turns number progress) = progress
+asks_progress (ExploreFrom start states turns number buffered progress) = progress
 asks_progress other = false
 
 abbrev pub wants_progress : CommandLine → Bool

@@ -84,12 +84,14 @@ fn made<R: MaybeThreads, E: Write>(
             states,
             turns,
             record,
+            buffered,
             progress,
         } => {
             let wanted = Search {
                 harts: plan,
                 states: *states,
                 turns: *turns,
+                buffered: *buffered,
                 progress: *progress,
             };
             explore_numbered(alloc, image, &wanted, *record, err)
@@ -105,6 +107,8 @@ fn made<R: MaybeThreads, E: Write>(
             states,
             turns,
             record,
+            // a search from a start always takes sends to buffer
+            buffered: _,
             progress,
         } => explore_from(
             alloc, image, start, *states, *turns, *record, *progress, err,

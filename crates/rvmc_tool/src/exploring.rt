@@ -1,4 +1,5 @@
-//! `explore`: the ends of all orders of ranks' turns, ranks that are stuck while others run on, and the record of one.
+//! `explore`: the ends of all orders of ranks' turns, ranks that are stuck while others run on, ranks that need buffers, and the
+//! record of one of these.
 
 ghost use Rattle.std.specs.Prelude.{◌≡◌, ◌≢◌, ◌<◌, IfErr, IfOk, List, None, OnOk, Some, length, true, ℕ};
 ghost use Rattle.std.specs.Io.KnownBytes.{Appends};
@@ -28,13 +29,14 @@ use std::alloc::Global;
 use std::io::Write;
 
 /// What a command line asks of a search: the order in which the harts of each rank take turns, if it is listed, of how many
-/// states it makes the moves at most, how many turns a rank takes by itself at once, and whether lines are wanted that say
-/// how far it came.
+/// states it makes the moves at most, how many turns a rank takes by itself at once, whether standard sends always buffer, so
+/// that it doesn't look for ranks that need buffers, and whether lines are wanted that say how far it came.
 #[derive(Clone, Copy, Drop)]
 pub(crate) struct Search<'a> {
     pub harts: &'a Option<Numbers>,
     pub states: u64,
     pub turns: u64,
+    pub buffered: bool,
     pub progress: bool,
 }
 
@@ -110,6 +112,7 @@ fn explore_record<E: Write>(
         states: wanted.states as usize,
         turns: wanted.turns,
         progress: wanted.progress,
+        buffered: wanted.buffered,
     };
     record_of_end(alloc, image, &asked, number, err)
 }
@@ -154,7 +157,8 @@ fn put_ends<O: Write, E: Write>(
     ensures fault { IfErr result (IsRunFault
         (ByPlans image.now wanted.now.turns wanted.now.harts.now (λ plans. ¬ (HasPlans image.now plans))) ⊥) }
     ensures left { IfErr result (λ fault. LeavesCut
-        (IsCutSearch (command.Explore wanted.now.harts.now wanted.now.states wanted.now.turns None wanted.now.progress) image.now)
+        (IsCutSearch (command.Explore wanted.now.harts.now wanted.now.states wanted.now.turns None wanted.now.buffered
+        wanted.now.progress) image.now)
         fault (O.contents out.old) (O.contents out.new)) }
     ensures progress { TellsProgress wanted.now.progress (E.contents err.old) (E.contents err.new) }
 {
@@ -164,6 +168,7 @@ fn put_ends<O: Write, E: Write>(
         states: wanted.states as usize,
         turns: wanted.turns,
         progress: wanted.progress,
+        buffered: wanted.buffered,
     };
     match put_explored(alloc, image, &asked, out, err) {
         Ok(searched) => Ok(searched),
@@ -184,13 +189,14 @@ pub(crate) fn put_search<O: Write, E: Write>(
     err: &mut E,
 ) -> Result<Searched, Fault>
     ensures told { IfOk result (λ searched. searched.taken ≡ true → TellsAll source
-        (command.Explore wanted.now.harts.now wanted.now.states wanted.now.turns None wanted.now.progress) bytes.now
-        searched.status (O.contents out.old) (O.contents out.new)) }
+        (command.Explore wanted.now.harts.now wanted.now.states wanted.now.turns None wanted.now.buffered wanted.now.progress)
+        bytes.now searched.status (O.contents out.old) (O.contents out.new)) }
     ensures fault { IfErr result (IsImageFault source
-        (command.Explore wanted.now.harts.now wanted.now.states wanted.now.turns None wanted.now.progress) bytes.now) }
+        (command.Explore wanted.now.harts.now wanted.now.states wanted.now.turns None wanted.now.buffered wanted.now.progress)
+        bytes.now) }
     ensures left { IfErr result (λ fault. LeavesCut (IsCutSearchOf source
-        (command.Explore wanted.now.harts.now wanted.now.states wanted.now.turns None wanted.now.progress) bytes.now)
-        fault (O.contents out.old) (O.contents out.new)) }
+        (command.Explore wanted.now.harts.now wanted.now.states wanted.now.turns None wanted.now.buffered wanted.now.progress)
+        bytes.now) fault (O.contents out.old) (O.contents out.new)) }
     ensures progress { TellsProgress wanted.now.progress (E.contents err.old) (E.contents err.new) }
 {
     let image = image_in(alloc, source, bytes)?;

@@ -154,8 +154,8 @@ pub(crate) fn explored<I: Read, O: Write, E: Write>(
 ) -> u8
     ensures answers { (bytes : List ℕ) → I.remaining input.old ≡ Some bytes → result ≢ 6
         → Answers (OfImage source
-        (Explore wanted.now.harts.now wanted.now.states wanted.now.turns None wanted.now.progress)) bytes result
-        (O.contents out.old) (O.contents out.new) }
+        (Explore wanted.now.harts.now wanted.now.states wanted.now.turns None wanted.now.buffered wanted.now.progress))
+        bytes result (O.contents out.old) (O.contents out.new) }
     ensures front { TakesAtMost 67112960 (I.remaining input.old) (I.remaining input.new) }
     ensures quiet { is_quiet result ≡ true
         → TellsQuietly wanted.now.progress (E.contents err.old) (E.contents err.new) }

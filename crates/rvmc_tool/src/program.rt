@@ -202,6 +202,7 @@ fn obey<R: MaybeThreads, I: Read, O: Write, E: Write>(
                 states,
                 turns,
                 record: None,
+                buffered,
                 progress,
             },
         } => {
@@ -209,6 +210,7 @@ fn obey<R: MaybeThreads, I: Read, O: Write, E: Write>(
                 harts: plan,
                 states: *states,
                 turns: *turns,
+                buffered: *buffered,
                 progress: *progress,
             };
             explored(alloc, line, *source, &wanted, input, out, err)

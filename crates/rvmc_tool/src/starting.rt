@@ -60,6 +60,8 @@ pub(crate) fn split<E: Write>(
         states: SPLIT_STATES,
         turns,
         progress,
+        // a split looks for no outcomes
+        buffered: true,
     };
     match starts_of(alloc, image, &asked, count as usize, err) {
         Ok(text) => Ok(Answer {

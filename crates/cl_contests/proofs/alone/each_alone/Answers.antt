@@ -2,8 +2,9 @@ use Rattle.cl_contests.proofs.Leading.{alone_more, alone_stays}
 use Rattle.cl_contests.proofs.alone.each_alone.Goals as goal
 
 pub loop-rank-init : goal.loop-rank-init
-loop-rank-init c = alone_stays c.args.standing.now
+loop-rank-init c = alone_stays c.args.patterns.now.may_wait c.args.standing.now
 
 pub loop-rank-preserved : goal.loop-rank-preserved
 loop-rank-preserved c =
-    alone_more c.args.standing.now c.loop-rank.standing c.go_alone.new.standing c.loop-rank.invariant c.in_ok-fewer.ensures
+    alone_more c.args.patterns.now.may_wait c.args.standing.now c.loop-rank.standing c.go_alone.new.standing
+    c.loop-rank.invariant c.in_ok-fewer.ensures

@@ -4,7 +4,7 @@ use Rattle.cl_machine.specs.declared.steps.Step.{Step}
 use Rattle.cl_state.specs.Asked.{asked}
 use Rattle.cl_state.specs.Room.{rank_of}
 use Rattle.cl_trace.specs.Traces.{kind_of_bare}
-use Rattle.cl_contests.specs.Turns.{IsBusyKind}
+use Rattle.cl_contests.specs.Turns.{IsBusyKind, MayGoFirst}
 use Rattle.cl_contests.proofs.alone.next_busy.Goals as goal
 
 pub returns : goal.returns
@@ -26,4 +26,6 @@ returns c =
       low = omega (arith, stamp, c.if-own-ge-CLOCK_MAX.false);
       busy = subst (λ k. IsBusyKind (asked (rank_of own) 0) k) (sym kind)
           (subst (λ a. IsBusyKind a (kind_of_bare c.in-Some.kind)) c.in_ok-ask.ensures c.in-Some.ensures);
+      anyway = subst (MayGoFirst c.args.patterns.now.may_wait c.args.standing.now) (sym rank)
+          (c.hold_back.ensures c.if-hold_back.false);
     }

@@ -8,4 +8,4 @@ use Rattle.cl_contests.proofs.first.all_within.Given as goal
 abbrev pub invariant-loop-rank : goal.invariant-loop-rank
 invariant-loop-rank l =
     l.within ≡ true → (r : ℕ) → r < l.rank → (own : RankState) → slice_get l.standing.cluster.ranks.items r ≡ Some own
-    → AsksWithin (search_of l.patterns.kept.items) r own
+    → AsksWithin (search_of l.patterns.may_wait l.patterns.kept.items) r own

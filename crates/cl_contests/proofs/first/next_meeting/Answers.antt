@@ -11,7 +11,9 @@ returns c =
     let here = slice_get_read ranks.items c.len.result c.from-place.result own (c.len.ensures ∙ ranks.ok.0)
     c.if-place-len.false c.index-own.ensures in
     if_ok_on c.meeting_of.result
-    (λ o call. told_met c.args.patterns.now.kept.items c.args.standing.now c.args.rank own c.is_made_anew-waits.result
+    (λ o call. told_met c.args.patterns.now.may_wait c.args.patterns.now.kept.items c.args.standing.now c.args.rank own
+    c.is_made_anew-waits.result
     c.next-doing.result c.in_ok-ask.ask
     (subst (λ r. slice_get ranks.items r ≡ Some own) c.from-place.ensures here)
-    c.is_made_anew-waits.ensures (c.next-doing.ensures).spelled c.in_ok-ask.ensures o call) c.meeting_of.ensures
+    c.is_made_anew-waits.ensures (c.next-doing.ensures).spelled c.in_ok-ask.ensures (c.hold_back.ensures c.if-hold_back.false)
+    o call) c.meeting_of.ensures

@@ -13,4 +13,4 @@ abbrev pub invariant-loop-rank : goal.invariant-loop-rank
 invariant-loop-rank l =
     (image : ImageParts) (cluster : Cluster) → ClusterStandsFor image l.state cluster → (r : ℕ) → r < l.rank
     → (own : RankState) → slice_get l.state.ranks.items r ≡ Some own
-    → IsFitRank (search_of l.patterns.kept.items) cluster r (rank_of own)
+    → IsFitRank (search_of l.patterns.may_wait l.patterns.kept.items) cluster r (rank_of own)

@@ -17,6 +17,7 @@ loop-line-preserved c =
           c.lines-line-items.result.now are (let many = ap (λ xs. length xs) are in omega (arith, c.loop-line-test.true, many))
           c.in_ok-add_wait.ensures.waits;
       keeps = λ r wanted has. c.in_ok-add_wait.ensures.keeps r wanted (c.loop-line.invariant.keeps r wanted has);
+      still = c.in_ok-add_wait.ensures.still ∙ c.loop-line.invariant.still;
     }
 
 pub returns-clause-waits : goal.returns-clause-waits

@@ -10,4 +10,5 @@ invariant-loop-line l = record {
   below : (place : ℕ) → place < l.line-index → (line : Line) → slice_get l.whole.board.lines place ≡ Some line
       → MayWait l.patterns.kept.items line;
   keeps : Keeps l.fn.patterns.kept.items l.patterns.kept.items;
+  still : l.patterns.may_wait ≡ l.fn.patterns.may_wait;
 }

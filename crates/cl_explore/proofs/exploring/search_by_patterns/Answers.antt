@@ -5,18 +5,18 @@ use Rattle.cl_contests.specs.Going.{TellsStart}
 use Rattle.cl_contests.specs.Kept.{search_of}
 use Rattle.cl_explore.specs.Ends.{findings}
 use Rattle.cl_explore.specs.How.{by_contest}
-use Rattle.cl_explore.proofs.Finds.{explored_behind, if_some_on, may_begin}
+use Rattle.cl_explore.proofs.Finds.{bounded_if, explored_behind, if_some_on, may_begin}
 use Rattle.cl_explore.proofs.Hears.{came_behind}
 use Rattle.cl_explore.proofs.exploring.search_by_patterns.Goals as goal
 
 pub returns-in_err-found-clause-progress : goal.returns-in_err-found-clause-progress
 returns-in_err-found-clause-progress g c = told_behind c.args.course.now.progress _ _ _ c.loop-try.invariant.0 c.search.ensures.progress
 
-pub returns-then-is_some-clause-progress : goal.returns-then-is_some-clause-progress
-returns-then-is_some-clause-progress g c = told_behind c.args.course.now.progress _ _ _ c.loop-try.invariant.0 c.search.ensures.progress
+pub returns-then-is_wanted-clause-progress : goal.returns-then-is_wanted-clause-progress
+returns-then-is_wanted-clause-progress g c = told_behind c.args.course.now.progress _ _ _ c.loop-try.invariant.0 c.search.ensures.progress
 
-pub returns-then-is_empty-clause-progress : goal.returns-then-is_empty-clause-progress
-returns-then-is_empty-clause-progress g c = told_behind c.args.course.now.progress _ _ _ c.loop-try.invariant.0 c.search.ensures.progress
+pub returns-then-not-patterns-clause-progress : goal.returns-then-not-patterns-clause-progress
+returns-then-not-patterns-clause-progress g c = told_behind c.args.course.now.progress _ _ _ c.loop-try.invariant.0 c.search.ensures.progress
 
 pub returns-in_err-add_all-clause-progress : goal.returns-in_err-add_all-clause-progress
 returns-in_err-add_all-clause-progress g c = told_behind c.args.course.now.progress _ _ _ c.loop-try.invariant.0 c.search.ensures.progress
@@ -25,9 +25,10 @@ pub loop-try-preserved : goal.loop-try-preserved
 loop-try-preserved g c =
     (told_behind c.args.course.now.progress _ _ _ c.loop-try.invariant.0 c.search.ensures.progress, c.search.ensures.holds)
 
-pub returns-then-is_some-clause-ends : goal.returns-then-is_some-clause-ends
-returns-then-is_some-clause-ends g c =
+pub returns-then-is_wanted-clause-ends : goal.returns-then-is_wanted-clause-ends
+returns-then-is_wanted-clause-ends g c =
     let kept = c.add_waits.new.patterns.kept.items in
+    let may_wait = c.add_waits.new.patterns.may_wait in
     let image = c.args.image.now in
     let order = c.args.course.now.order.now in
     let turns = c.args.turns.now in
@@ -35,8 +36,8 @@ returns-then-is_some-clause-ends g c =
     let led = c.in_ok-standing.ensures.led in
     let same = ap (λ (p : ImageParts). p.harts) c.parts.ensures.parts in
     if_some_on c.in_ok-found.found
-    (λ found from. explored_behind (by_contest (search_of kept)) image order turns standing (findings found) led
-    (may_begin kept image order turns standing led (c.is_first_hart.ensures c.if-not-is_first_hart.false)
+    (λ found from. explored_behind (by_contest (search_of may_wait kept)) image order turns standing (findings found) led
+    (may_begin may_wait kept image order turns standing led (c.is_first_hart.ensures c.if-not-is_first_hart.false)
     (omega (arith, c.if-parts-ne1.false, same))
     c.in_ok-add_waits.ensures.waits (subst (TellsStart standing) c.if-not-may_start.false c.may_start.ensures)) from) c.in_ok-found.ensures.ends
 
@@ -44,3 +45,13 @@ pub search-requires-clause-came : goal.search-requires-clause-came
 search-requires-clause-came g c =
     came_behind c.args.image.now c.args.course.now.order.now c.args.turns.now c.in_ok-standing.standing
     c.in_ok-standing.ensures.led
+
+pub search-requires-clause-image : goal.search-requires-clause-image
+search-requires-clause-image g c = λ waits.
+    let same = ap (λ (p : ImageParts). p.harts) c.parts.ensures.parts in
+    (c.parts.ensures.limits, omega (arith, c.if-parts-ne1.false, same))
+
+pub returns-then-is_wanted-clause-most : goal.returns-then-is_wanted-clause-most
+returns-then-is_wanted-clause-most g c =
+    bounded_if c.args.states c.states_in.result c.args.course.now.most c.add_waits.new.patterns.may_wait c.in_ok-found.found
+    c.states_in.ensures (c.is_wanted.ensures c.if-is_wanted.true) c.in_ok-found.ensures.most

@@ -1,4 +1,4 @@
-use Rattle.std.proofs.Common.{IfOk, IfSome, List, subst, sym}
+use Rattle.std.proofs.Common.{Bool, IfOk, IfSome, List, subst, sym}
 use Rattle.cl_moves.proofs.Asking.{if_ok_on}
 use Rattle.cl_contests.specs.declared.patterns.AskedBy.{AskedBy}
 use Rattle.cl_explore.specs.Likeness.{AreNamedIn}
@@ -12,6 +12,6 @@ returns-in-Plainly c =
 
 pub returns-in-First : goal.returns-in-First
 returns-in-First c =
-    subst (λ way. IfOk c.live_names.result (λ found. IfSome found (λ names. (asked : List AskedBy)
-    → AreNamedIn (how_of way asked) names c.args.mine.now c.args.theirs.now))) (sym c.in-First.is)
+    subst (λ way. IfOk c.live_names.result (λ found. IfSome found (λ names. (may_wait : Bool) (asked : List AskedBy)
+    → AreNamedIn (how_of way may_wait asked) names c.args.mine.now c.args.theirs.now))) (sym c.in-First.is)
     (if_ok_on c.live_names.result (if_live_named c.args.mine.now c.args.theirs.now) c.live_names.ensures)

@@ -13,8 +13,9 @@ so false is = absurd (cc)
 pub returns-clause-on : goal.returns-clause-on
 returns-clause-on c =
     let kept = c.args.course.now.patterns.now.kept.items in
-    subst (λ goes. GoesOn (how_of goes kept) c.args.course.now.order.now c.args.live.now c.go_first.new.standing)
+    let may_wait = c.args.course.now.patterns.now.may_wait in
+    subst (λ goes. GoesOn (how_of goes may_wait kept) c.args.course.now.order.now c.args.live.now c.go_first.new.standing)
     (sym c.requires.way)
-    (goes_uncontested c.args.course.now.order.now (search_of kept) c.args.live.now c.go_first.new.standing
+    (goes_uncontested c.args.course.now.order.now (search_of may_wait kept) c.args.live.now c.go_first.new.standing
     (c.in_ok-went.ensures (so c.in_ok-went.went.within c.if-not-went.false) c.args.course.now.order.now
     (c.is_first_hart.ensures c.if-not-is_first_hart.false)))

@@ -10,4 +10,5 @@ returns c =
       leads = subst (λ (way : List Step). LeadThere c.args.nodes.now c.args.node way) (sym same) c.in_ok-steps.ensures;
       body_is = refl;
       ends_are = refl;
+      need_is = refl;
     }

@@ -3,7 +3,7 @@ use Rattle.std.proofs.lemmas.List.{append_assoc}
 use Rattle.cl_explore.specs.Ends.{findings}
 use Rattle.cl_moves.specs.Standing.{first_node}
 use Rattle.rvmc_explore.specs.Telling.{AddsOutcomes, ends_lines, last_line, unending_line}
-use Rattle.rvmc_explore.proofs.Endless.{says_none_stuck}
+use Rattle.rvmc_explore.proofs.Endless.{says_ends_anyway, says_none_need, says_none_stuck}
 use Rattle.rvmc_explore.proofs.Heard.{all_behind}
 use Rattle.rvmc_explore.proofs.Listed.{within}
 use Rattle.rvmc_explore.proofs.putting.rest_of.Goals as goal
@@ -26,7 +26,7 @@ returns c = λ before lines.
     let body = c.put_told.new.text.items in
     let counts = ends_lines 1 told in
     let line = unending_line c.in_ok-unending.unending in
-    let last = last_line (length told) (length found.nodes.items) found.left found.long c.args.asked.now.turns in
+    let last = last_line (length told) (length found.nodes.items) found.left found.may_wait found.long c.args.asked.now.turns in
     let explored = (c.requires.searched).explored in
     let many : c.len-before.result ≡ length heard.items = c.len-before.ensures ∙ heard.ok.0 in
     let counted : c.put_counts.new.text.items ≡ body ++ counts =
@@ -54,6 +54,8 @@ returns c = λ before lines.
       unending = c.in_ok-unending.unending;
       unending_is = c.in_ok-unending.ensures image order (first_node image) ([], refl) explored;
       none_stuck = says_none_stuck image order (first_node image) (findings found) c.parts-parts.ensures.limits explored;
+      none_need = says_none_need image order (first_node image) (findings found) c.parts-parts.ensures.limits explored;
+      ends_anyway = says_ends_anyway image order (findings found) c.parts-parts.ensures.limits explored;
       body = before ++ body;
       lines = all_behind heard.items told c.in_ok-told.ensures.begins before body lines those;
       spelled = ap (λ (text : List ℕ). before ++ text) whole ∙ sym (append_assoc before body (counts ++ (line ++ last)));

@@ -29,8 +29,8 @@ returns-in-ExploreFrom-clause-says g c =
 pub explore_numbered-requires : goal.explore_numbered-requires
 explore_numbered-requires g c = λ none.
     let it = c.in-Explore in
-    let no : tells_search (Explore it.plan it.states it.turns None it.progress) ≡ false =
-    subst (λ number. tells_search (Explore it.plan it.states it.turns number it.progress) ≡ false) none
+    let no : tells_search (Explore it.plan it.states it.turns None it.buffered it.progress) ≡ false =
+    subst (λ number. tells_search (Explore it.plan it.states it.turns number it.buffered it.progress) ≡ false) none
     (subst (λ command. tells_search command ≡ false) it.is c.requires.whole) in absurd (cc)
 
 pub returns-in-Explore-clause-says : goal.returns-in-Explore-clause-says

@@ -7,7 +7,7 @@ use Rattle.rvmc_tool.proofs.made.explored.Goals as goal
 pub returns-in-Ok-clause-answers : goal.returns-in-Ok-clause-answers
 returns-in-Ok-clause-answers g c = λ bytes known not_6.
     let wanted = c.args.wanted.now in
-    let command = Explore wanted.harts.now wanted.states wanted.turns None wanted.progress in
+    let command = Explore wanted.harts.now wanted.states wanted.turns None wanted.buffered wanted.progress in
     let put = c.put_search-found in
     obeyed_by_search c.args.source command _ bytes c.in-Ok.bytes.items c.as_slice-whole.result.now c.tell_search.result _ _
     known c.in-Ok.ensures.whole (search rules)

@@ -1,4 +1,4 @@
-use Rattle.std.proofs.Common.{arith}
+use Rattle.std.proofs.Common.{arith, ◌∙◌}
 use Rattle.cl_contests.proofs.Passing.{has_all, has_more}
 use Rattle.cl_contests.proofs.patterns.Patterns.add_all.Goals as goal
 
@@ -14,4 +14,5 @@ loop-asked-preserved c = record {
       (omega (arith, c.loop-asked-test.true, c.as_slice-asked-items.ensures.len, c.args.others.now.kept.ok.0))
       c.in_ok-keep.ensures.keeps c.in_ok-keep.ensures.has;
   keeps = λ r wanted has. c.in_ok-keep.ensures.keeps r wanted (c.loop-asked.invariant.keeps r wanted has);
+  still = c.in_ok-keep.ensures.still ∙ c.loop-asked.invariant.still;
 }

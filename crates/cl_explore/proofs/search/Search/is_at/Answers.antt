@@ -16,6 +16,6 @@ returns c =
     (λ at alike its. (
       kept,
       here,
-      alike its c.args.course.now.patterns.now.kept.items c.args.course.now.order.now,
+      alike its c.args.course.now.patterns.now.may_wait c.args.course.now.patterns.now.kept.items c.args.course.now.order.now,
       places,
     )) c.is_alike.ensures

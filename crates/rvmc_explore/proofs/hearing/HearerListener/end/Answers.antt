@@ -1,5 +1,5 @@
 use Rattle.std.proofs.Common.{subst}
-use Rattle.rvmc_explore.specs.InnerOutcomes.{IsNewEnd}
+use Rattle.rvmc_explore.specs.InnerOutcomes.{IsNew}
 use Rattle.rvmc_explore.proofs.Heard.{heard_more}
 use Rattle.rvmc_explore.proofs.hearing.HearerListener.end.Goals as goal
 
@@ -11,6 +11,6 @@ returns c =
     let outcome = c.in-Some.outcome in
     record {
       holds = heard_more order image told c.push.new.self.items outcome
-          (subst (λ os. IsNewEnd order image os outcome) c.as_slice.ensures.value (rw c.in-Some.is at c.in_ok-outcome.ensures))
+          (subst (λ os. IsNew order image os outcome) c.as_slice.ensures.value (rw c.in-Some.is at c.in_ok-outcome.ensures))
           c.in_ok-push.ensures.items c.requires.holds;
     }

@@ -1,6 +1,6 @@
 use Rattle.std.proofs.Common.{[], ℕ, List, length, subst, true, ◌+◌, ◌≡◌}
 use Rattle.std.specs.Io.KnownBytes.{Appends}
-use Rattle.rvmc_explore.specs.InnerOutcomes.{IsNewEnd}
+use Rattle.rvmc_explore.specs.InnerOutcomes.{IsNew}
 use Rattle.rvmc_explore.specs.Telling.{AddsOutcome}
 use Rattle.rvmc_explore.proofs.Heard.{heard_more, one_told_more}
 use Rattle.rvmc_explore.proofs.teller.TellerListener.end.Goals as goal
@@ -17,7 +17,7 @@ returns g c =
       holds = (
         (c.requires.holds).0,
         heard_more order image told new outcome
-            (subst (λ os. IsNewEnd order image os outcome) c.as_slice.ensures.value (rw c.in-Some.is at c.in_ok-outcome.ensures))
+            (subst (λ os. IsNew order image os outcome) c.as_slice.ensures.value (rw c.in-Some.is at c.in_ok-outcome.ensures))
             c.in_ok-push.ensures.items (c.requires.holds).1,
         one_told_more told new outcome c.args.self.now.taken c.put_behind-self.result g.K.Outset.before
             (g.O.Write.contents c.args.self.now.out.now) (g.O.Write.contents c.put_behind-self.new.out) piece

@@ -13,7 +13,8 @@ use Rattle.mp_alike_laws.specs.Renaming.{Renaming, line_by, turned}
 use Rattle.mp_source_laws.specs.Alike.{AlikeBoards, Wild}
 use Rattle.mp_source_laws.proofs.Likeness.{hub_back}
 use Rattle.mp_source_laws.proofs.Over.{free_is_live, same_or_over}
-use Rattle.cl_verdict_laws.specs.Unpaired.{UnpairedLaw, is_send, is_unpaired, unpaired_count}
+use Rattle.cl_rest_laws.specs.Unpaired.{is_send, is_unpaired}
+use Rattle.cl_rest_laws.specs.UnpairedLaw.{UnpairedLaw, unpaired_count}
 
 -- ---- marks
 
@@ -59,7 +60,7 @@ marks_count p = is_count_by (λ lines. marks (map (is_unpaired p) lines)) (is_un
 
 -- ---- a send without a partner has one in the other board
 
-without_partner : (p : Sent → Bool) (line : Line) → is_unpaired p line ≡ true → line.partner ≡ None
+pub without_partner : (p : Sent → Bool) (line : Line) → is_unpaired p line ≡ true → line.partner ≡ None
 without_partner p line is = go line.partner refl
   where
     go : (o : Option ℕ) → line.partner ≡ o → line.partner ≡ None
@@ -77,7 +78,7 @@ renamed names p line = ap (λ x. is_send p (cond x (Some line.post) None)) (go l
     go (Some k) = refl
 
 module _ {wild : Wild} (names : Renaming) (a b : Board) (alike : AlikeBoards wild names a b) (p : Sent → Bool) where
-  marked_too : (i : ℕ) → slice_get (map (is_unpaired p) a.lines) i ≡ Some true
+  pub marked_too : (i : ℕ) → slice_get (map (is_unpaired p) a.lines) i ≡ Some true
       → slice_get (map (is_unpaired p) b.lines) (names.to i) ≡ Some true
   marked_too i here = go (slice_get a.lines i) refl (sym (slice_get-map (is_unpaired p) a.lines i) ∙ here)
     where

@@ -1,25 +1,12 @@
--- How many sends have no partner.
-use Rattle.std.specs.Prelude.{ℕ, ◌≡◌, Bool, false, List, Option, Some, None}
+-- How many sends have no partner, in alike hubs.
+use Rattle.std.specs.Prelude.{ℕ, ◌≡◌, Bool, List}
 use Rattle.std.specs.List.{count_by}
 use Rattle.mp_match.specs.declared.posts.Line.{Line}
-use Rattle.mp_match.specs.declared.posts.Post.{Post}
-use Rattle.mp_match.specs.declared.posts.Post.TheVariants.{Send, Receive, Claim}
 use Rattle.mp_match.specs.declared.posts.Sent.{Sent}
-use Rattle.mp_match.specs.Free.{free_in}
 use Rattle.mp_hub.specs.Hub.{HubView}
 use Rattle.mp_alike_laws.specs.Renaming.{Renaming}
 use Rattle.mp_source_laws.specs.Alike.{AlikeHubs, Wild}
-
--- a send of which it holds
-abbrev pub is_send : (Sent → Bool) → Option Post → Bool
-is_send p None = false
-is_send p (Some (Send s)) = p s
-is_send p (Some (Receive a)) = false
-is_send p (Some (Claim a)) = false
-
--- the line is a send without a partner, of which it holds
-abbrev pub is_unpaired : (Sent → Bool) → Line → Bool
-is_unpaired p line = is_send p (free_in (Some line))
+use Rattle.cl_rest_laws.specs.Unpaired.{is_unpaired}
 
 -- how many of these lines are
 abbrev pub unpaired_count : (Sent → Bool) → List Line → ℕ

@@ -1,0 +1,6 @@
+pub mod Unpaired
+pub mod Resting
+pub mod Buffering
+pub mod Targets
+pub mod Ends
+pub mod Cases

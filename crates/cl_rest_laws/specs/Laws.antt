@@ -1,0 +1,49 @@
+-- The laws of ranks that rest.
+use Rattle.std.specs.Prelude.{ℕ, ◌≡◌, ◌≢◌, ◌⊎◌, true, false, List, [], ◌∷◌, length, Some}
+use Rattle.std.specs.List.{slice_get}
+use Rattle.rv_image_types.specs.Image.{IsImage}
+use Rattle.rv_image_types.specs.declared.images.ImageParts.{ImageParts}
+use Rattle.mp_source_laws.specs.Alike.{Wild}
+use Rattle.cl_state.specs.Rank.{Rank, below}
+use Rattle.cl_machine.specs.Cluster.{Cluster, IsStep}
+use Rattle.cl_machine.specs.declared.steps.Step.{Step}
+use Rattle.cl_deadlock_laws.specs.Stuck.{AreAsTheyWere, IsReachable}
+use Rattle.cl_order_laws.specs.Closed.{IsEnd, Plans}
+use Rattle.cl_first_laws.specs.Below.{AreAlike}
+use Rattle.cl_first_laws.specs.Laws.{Turn}
+use Rattle.cl_rest_laws.specs.Rests.{receives_from, rests, spelled}
+use Rattle.cl_rest_laws.specs.Buffering.{NeedBuffers}
+use Rattle.cl_rest_laws.specs.Ends.{IsEndWhereSendsWait}
+
+pub record RestLaw : Type 0 where
+  -- a rank that doesn't rest comes to rest by its own turn alone
+  pub away : (c new : Cluster) (r s which hart : ℕ) → s ≢ r → Turn s which c new → rests c r hart ≡ false
+      → rests new r hart ≡ false
+  -- and one that rests does so until it goes on or the other rank receives
+  pub stays : (c new : Cluster) (r s which hart : ℕ) (rank : Rank) → s ≢ r → slice_get c.ranks r ≡ Some rank
+      → receives_from rank.site (spelled rank hart) s ≡ false
+      → Turn s which c new → rests c r hart ≡ true
+      → rests new r hart ≡ true
+  -- in alike clusters the same ranks rest
+  pub alike : (wild : Wild) (a b : Cluster) (r hart : ℕ) → AreAlike wild a b → rests b r hart ≡ rests a r hart
+
+-- a run in which no rank takes a turn that rests before it
+abbrev pub IsPatientRun : Cluster → List Step → Cluster → Type 0
+IsPatientRun old [] new = new ≡ old
+IsPatientRun old (e ∷ es) new =
+    (mid : Cluster) × (rests old e.rank e.hart ≡ false) × IsStep old e mid × IsPatientRun mid es new
+
+-- where sends wait for their receives, ranks that need buffers are stuck for good: no such run, of any length and with any
+-- order of turns, changes more of them than their clocks
+abbrev pub BufferingLaw : Type 0
+BufferingLaw =
+    (image : ImageParts) (c : Cluster) (ranks : List ℕ) → IsReachable image c → NeedBuffers ranks c
+    → (steps : List Step) (new : Cluster) → IsPatientRun c steps new
+    → AreAsTheyWere ranks c new
+
+-- at such an end nobody goes on anyway, or all ranks together need buffers. Of ranks with one hart each
+abbrev pub EndLaw : Type 0
+EndLaw =
+    (image : ImageParts) (plans : Plans) (c : Cluster) → IsImage image → image.harts ≡ 1 → ((r n : ℕ) → plans r n ≡ 0)
+    → IsReachable image c → IsEndWhereSendsWait plans c
+    → IsEnd plans c ⊎ NeedBuffers (below (length c.ranks)) c

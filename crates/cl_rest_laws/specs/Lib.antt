@@ -1,0 +1,7 @@
+pub mod Unpaired
+pub mod UnpairedLaw
+pub mod Rests
+pub mod Buffering
+pub mod Laws
+pub mod Ends
+pub mod Worked

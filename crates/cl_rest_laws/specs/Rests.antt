@@ -1,0 +1,90 @@
+-- Where a rank may rest: behind a standard send that nobody received. MPI lets such a send wait for its receive (MPI 4.1,
+-- 3.4), and calls a program unsafe that needs it to go on (3.5).
+use Rattle.std.specs.Prelude.{ℕ, ◌-◌, ◌==◌, ◌&&◌, nat_lt, not, Bool, true, false, length, Option, Some, None}
+use Rattle.std.specs.List.{list_any, slice_get}
+use Rattle.rv_memory.specs.Access.{word_at}
+use Rattle.rv_memory.specs.Memory.{Memory}
+use Rattle.rv_hart.specs.State.{State}
+use Rattle.rv_hart.specs.declared.state.Mode.{Mode}
+use Rattle.rv_hart.specs.declared.state.Mode.TheVariants.{Running, Waiting, Ended, Trapped}
+use Rattle.rv_hart.specs.declared.state.Wait.TheVariants.{Post, Again}
+use Rattle.mp_match.specs.declared.posts.Sent.{Sent}
+use Rattle.mp_hub.specs.Hub.{HubView}
+use Rattle.cl_calls.specs.declared.calls.Call.{Call}
+use Rattle.cl_calls.specs.declared.calls.Call.TheVariants as call
+use Rattle.cl_calls.specs.declared.calls.Sending.{Sending}
+use Rattle.cl_calls.specs.declared.sites.Site.{Site}
+use Rattle.cl_calls.specs.Calls.{argument, call_named}
+use Rattle.cl_calls.specs.Site.{member, members}
+use Rattle.cl_state.specs.Asked.{is_ecall, part_of}
+use Rattle.cl_state.specs.Rank.{Rank}
+use Rattle.cl_state_laws.specs.Vain.{mode_of}
+use Rattle.cl_machine.specs.Cluster.{Cluster}
+use Rattle.cl_order_laws.specs.Alike.{hub_of}
+use Rattle.cl_rest_laws.specs.Unpaired.{is_unpaired}
+
+-- ---- the send behind which a hart stands
+
+-- the message is one that rank r sends by a SEND with these arguments, to a member of the communicator
+abbrev pub is_sent_with : Site → ℕ → Sending → Sent → Bool
+is_sent_with site r s m =
+    (nat_lt s.dest (length (members site s.comm)) && not m.sync)
+    && (((m.envelope.source == r) && (m.dest == member site s.comm s.dest))
+    && ((m.envelope.tag == s.tag) && (m.envelope.comm == s.comm)))
+
+-- by this call of rank r, if that is a SEND
+abbrev pub is_message_of : Site → ℕ → Call → Sent → Bool
+is_message_of site r (call.Send s) m = is_sent_with site r s m
+is_message_of site r _ m = false
+
+-- the hart is neither stopped nor polls a post
+abbrev pub is_free_to_go : Mode → Bool
+is_free_to_go Running = true
+is_free_to_go (Waiting Again) = true
+is_free_to_go (Waiting (Post post)) = false
+is_free_to_go (Ended code) = false
+is_free_to_go (Trapped cause pc) = false
+
+-- a SEND says in a5, which the machine doesn't read, that its message is buffered by whoever sends it: the eight letters of
+-- `buffered`. Such a send never waits. The C library says so of what it sends for itself
+abbrev pub buffered_word : ℕ
+buffered_word = 0x6465726566667562
+
+-- the call that was made wasn't refused, for its code in a0 is 0, and doesn't say that it is buffered
+abbrev pub may_wait_for_receipt : State → Bool
+may_wait_for_receipt hart = (argument hart 0 == 0) && not (argument hart 5 == buffered_word)
+
+-- the instruction before the one at its pc is an ECALL, of 4 bytes
+abbrev pub is_behind_call : Memory → State → Bool
+is_behind_call memory hart = nat_lt 3 hart.pc && is_ecall (word_at memory (hart.pc - 4))
+
+-- the hart stands behind a call that may wait
+abbrev pub stands_behind_call : Rank → ℕ → Bool
+stands_behind_call rank hart =
+    is_free_to_go (mode_of rank hart)
+    && (is_behind_call rank.memory (part_of rank hart).hart && may_wait_for_receipt (part_of rank hart).hart)
+
+-- which call its registers spell: behind a call they still do, but for the code in a0
+abbrev pub spelled : Rank → ℕ → Call
+spelled rank hart = call_named (part_of rank hart).hart
+
+-- the hart stands behind a SEND, and neither a receive nor a matched probe has the message. Messages of one rank to one rank
+-- in one communicator with one tag are received in the order in which they were sent (3.5): if one of them wasn't received,
+-- the last one wasn't
+abbrev pub rests_in : HubView → ℕ → Rank → ℕ → Bool
+rests_in hub r rank hart =
+    stands_behind_call rank hart
+    && list_any (is_unpaired (is_message_of rank.site r (spelled rank hart))) hub.board.lines
+
+abbrev pub rests_if : HubView → ℕ → Option Rank → ℕ → Bool
+rests_if hub r None hart = false
+rests_if hub r (Some rank) hart = rests_in hub r rank hart
+
+-- the hart of rank r rests
+abbrev pub rests : Cluster → ℕ → ℕ → Bool
+rests c r hart = rests_if (hub_of c.journal) r (slice_get c.ranks r) hart
+
+-- the rank that is to receive what the call sends
+abbrev pub receives_from : Site → Call → ℕ → Bool
+receives_from site (call.Send s) k = member site s.comm s.dest == k
+receives_from site _ k = false

@@ -1,0 +1,152 @@
+-- Worked rows: runs to ranks that need buffers, runs to ranks that don't, and sends behind which no rank rests.
+use Rattle.std.specs.Prelude.{ℕ, ◌-◌, List, [], ◌∷◌, ◌++◌, ◌≡◌, replicate, true, false}
+use Rattle.rv_memory.specs.Memory.{Memory}
+use Rattle.mp_types.specs.declared.replies.Reply.TheVariants as reply
+use Rattle.cl_trace.specs.declared.events.Kind.{Kind}
+use Rattle.cl_state.specs.Rank.{Rank}
+use Rattle.cl_state.specs.Rows.{one_page}
+use Rattle.cl_machine.specs.declared.steps.Step.{Step}
+use Rattle.cl_machine.specs.Cluster.{Cluster, IsRun}
+use Rattle.cl_machine.specs.Worked.{sent_message, step}
+use Rattle.cl_deadlock_laws.specs.Stuck.{AreStuck}
+use Rattle.cl_deadlock_laws.specs.Worked.{at_call, both, ended}
+use Rattle.cl_rest_laws.specs.Buffering.{NeedBuffers}
+use Rattle.cl_rest_laws.specs.Rests.{buffered_word, rests}
+
+-- ---- the guests: ranks 0 and 1 of two, each at its first call
+
+-- 16 bytes of text: nothing, ECALL, ADDI of -1 into a1, and ECALL again. Then 48 bytes of data that begin with "hi\n"
+abbrev pub two_calls : Memory
+two_calls = record {
+  bytes =
+      0 ∷ 0 ∷ 0 ∷ 0 ∷ 0x73 ∷ 0 ∷ 0 ∷ 0 ∷ 0x93 ∷ 0x05 ∷ 0xf0 ∷ 0xff ∷ 0x73 ∷ 0 ∷ 0 ∷ 0 ∷ 104 ∷ 105 ∷ 10
+      ∷ replicate 45 9;
+  text = 16;
+  pages = one_page;
+}
+
+abbrev pub calls_twice : ℕ → List ℕ → ℕ → Rank
+calls_twice rank arguments number = record (at_call rank arguments number) { memory = two_calls }
+
+-- SEND and SSEND of the 2 bytes at 17 with tag 7, and a SEND with this word in a5
+abbrev pub send : ℕ → ℕ → Rank
+send rank dest = calls_twice rank (17 ∷ 2 ∷ dest ∷ 7 ∷ 0 ∷ []) 16
+
+abbrev pub ssend : ℕ → ℕ → Rank
+ssend rank dest = calls_twice rank (17 ∷ 2 ∷ dest ∷ 7 ∷ 0 ∷ []) 17
+
+abbrev pub send_saying : ℕ → ℕ → ℕ → Rank
+send_saying word rank dest = calls_twice rank (17 ∷ 2 ∷ dest ∷ 7 ∷ 0 ∷ word ∷ []) 16
+
+-- RECV and IRECV of 4 bytes with tag 7 to 24
+abbrev pub recv : ℕ → ℕ → Rank
+recv rank source = calls_twice rank (24 ∷ 4 ∷ source ∷ 7 ∷ 0 ∷ 0 ∷ []) 18
+
+abbrev pub irecv : ℕ → ℕ → Rank
+irecv rank source = calls_twice rank (24 ∷ 4 ∷ source ∷ 7 ∷ 0 ∷ []) 21
+
+-- IMPROBE of any message with tag 7
+abbrev pub improbe : ℕ → ℕ → Rank
+improbe rank source = calls_twice rank (source ∷ 7 ∷ 0 ∷ 0 ∷ []) 26
+
+-- ---- where steps lead
+
+-- these steps lead to a cluster of which this holds
+abbrev pub LeadTo : (Cluster → Type 0) → Cluster → List Step → Type 0
+LeadTo Holds start steps = (end : Cluster) × IsRun start steps end × Holds end
+
+-- in which these ranks need buffers
+abbrev pub GetToNeedBuffers : List ℕ → Cluster → List Step → Type 0
+GetToNeedBuffers ranks = LeadTo (NeedBuffers ranks)
+
+-- in which they don't
+abbrev pub GetToNeedNoBuffers : List ℕ → Cluster → List Step → Type 0
+GetToNeedNoBuffers ranks = LeadTo (λ c. ¬ NeedBuffers ranks c)
+
+-- in which rank 0 rests
+abbrev pub GetToRest : Cluster → List Step → Type 0
+GetToRest = LeadTo (λ c. rests c 0 0 ≡ true)
+
+-- in which it doesn't
+abbrev pub GetToNoRest : Cluster → List Step → Type 0
+GetToNoRest = LeadTo (λ c. rests c 0 0 ≡ false)
+
+-- ---- ranks that need buffers
+
+-- rank 0's send is the first post, and complete at once
+abbrev pub sends : List Step
+sends = step 0 9 (Kind.Hub (reply.Posted 1 true)) ∷ []
+
+-- and then rank 1's
+abbrev pub both_send : List Step
+both_send = sends ++ step 1 10 (Kind.Hub (reply.Posted 2 true)) ∷ []
+
+-- each sends to the other
+abbrev pub SendFirst : Type 0
+SendFirst = GetToNeedBuffers (0 ∷ 1 ∷ []) (both (send 0 1) (send 1 0)) both_send
+
+-- once rank 0 went on behind its send they don't. So a search that lets a resting rank go first may miss ranks that need
+-- buffers
+abbrev pub OneGoesOn : Type 0
+OneGoesOn =
+    GetToNeedNoBuffers (0 ∷ 1 ∷ []) (both (send 0 1) (send 1 0)) (both_send ++ step 0 10 Kind.Plain ∷ [])
+
+-- rank 0 alone doesn't need buffers: the other could receive
+abbrev pub OneAlone : Type 0
+OneAlone = GetToNeedNoBuffers (0 ∷ []) (both (send 0 1) (send 1 0)) both_send
+
+-- a rank that sends to itself needs buffers alone, whatever the other does
+abbrev pub ToItself : Type 0
+ToItself = GetToNeedBuffers (0 ∷ []) (both (send 0 0) (recv 1 0)) sends
+
+-- a rank that sends to one that has ended needs buffers, together with that one
+abbrev pub ToEnded : Type 0
+ToEnded = GetToNeedBuffers (0 ∷ 1 ∷ []) (both (send 0 1) (ended (recv 1 0))) sends
+
+-- ---- ranks that rest until their message is received
+
+-- rank 0 rests where rank 1 didn't receive yet
+abbrev pub Unreceived : Type 0
+Unreceived = GetToRest (both (send 0 1) (recv 1 0)) sends
+
+-- it doesn't once rank 1 received
+abbrev pub Received : Type 0
+Received =
+    GetToNoRest (both (send 0 1) (recv 1 0)) (sends ++ step 1 10 (Kind.Hub (reply.Got sent_message)) ∷ [])
+
+-- or a matched probe has the message
+abbrev pub Claimed : Type 0
+Claimed =
+    GetToNoRest (both (send 0 1) (improbe 1 0))
+    (sends ++ step 1 10 (Kind.Hub (reply.Held 2 sent_message.envelope)) ∷ [])
+
+-- or where the receive was posted before the send: by a RECV, which waits, or by an IRECV
+abbrev pub receive_first : List Step
+receive_first = step 1 9 (Kind.Hub (reply.Posted 1 false)) ∷ step 0 10 (Kind.Hub (reply.Posted 2 true)) ∷ []
+
+abbrev pub ReceiveWaits : Type 0
+ReceiveWaits = GetToNoRest (both (send 0 1) (recv 1 0)) receive_first
+
+abbrev pub ReceivePosted : Type 0
+ReceivePosted = GetToNoRest (both (send 0 1) (irecv 1 0)) receive_first
+
+-- ---- sends behind which no rank rests
+
+-- a SEND that says that it is buffered
+abbrev pub SaysBuffered : Type 0
+SaysBuffered = GetToNoRest (both (send_saying buffered_word 0 1) (recv 1 0)) sends
+
+-- another word in a5 doesn't say so
+abbrev pub SaysOther : Type 0
+SaysOther = GetToRest (both (send_saying (buffered_word - 1) 0 1) (recv 1 0)) sends
+
+-- an SSEND waits by itself: its rank is stuck, and doesn't rest
+abbrev pub WaitsInSsend : Type 0
+WaitsInSsend =
+    LeadTo (λ c. (rests c 0 0 ≡ false) × AreStuck (0 ∷ 1 ∷ []) c) (both (ssend 0 1) (ended (recv 1 0)))
+    (step 0 9 (Kind.Hub (reply.Posted 1 false)) ∷ [])
+
+-- a second SEND, of 2^64 - 1 bytes, is refused: behind it the rank doesn't rest, though nobody received its first message
+abbrev pub IsRefused : Type 0
+IsRefused =
+    GetToNoRest (both (send 0 1) (recv 1 0)) (sends ++ step 0 10 Kind.Plain ∷ step 0 11 Kind.Local ∷ [])

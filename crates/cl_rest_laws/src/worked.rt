@@ -1,0 +1,75 @@
+//! Worked rows: ranks that need buffers, ranks that don't, and sends behind which no rank rests.
+
+ghost use Rattle.cl_rest_laws.specs.Worked.{Claimed, IsRefused, OneAlone, OneGoesOn, ReceivePosted, ReceiveWaits, Received};
+ghost use Rattle.cl_rest_laws.specs.Worked.{SaysBuffered, SaysOther, SendFirst, ToEnded, ToItself, Unreceived, WaitsInSsend};
+
+/// Two ranks that each send to the other first need buffers.
+pub fn each_sends_first()
+    ensures { SendFirst }
+{}
+
+/// Once one of them went on they no longer need buffers. So a search that lets a resting rank go first may miss ranks that
+/// need buffers.
+pub fn one_goes_on()
+    ensures { OneGoesOn }
+{}
+
+/// One of them alone doesn't need buffers, for the other could receive.
+pub fn sends_to_one_outside()
+    ensures { OneAlone }
+{}
+
+/// A rank that sends to itself needs buffers, whatever the other does.
+pub fn sends_to_itself()
+    ensures { ToItself }
+{}
+
+/// A rank that sends to one that has ended needs buffers, together with that one.
+pub fn sends_to_one_that_ended()
+    ensures { ToEnded }
+{}
+
+/// A rank rests behind a send that nobody received.
+pub fn message_is_left()
+    ensures { Unreceived }
+{}
+
+/// It doesn't rest once its message was received.
+pub fn message_was_received()
+    ensures { Received }
+{}
+
+/// It doesn't rest once a matched probe has its message.
+pub fn message_was_claimed()
+    ensures { Claimed }
+{}
+
+/// A rank doesn't rest behind a send for which a receive waits.
+pub fn receive_waits()
+    ensures { ReceiveWaits }
+{}
+
+/// A rank doesn't rest behind a send whose receive was posted before.
+pub fn receive_was_posted()
+    ensures { ReceivePosted }
+{}
+
+/// A rank doesn't rest behind a send that says that it is buffered.
+pub fn says_that_it_is_buffered()
+    ensures { SaysBuffered }
+{}
+
+/// Another word in a5 doesn't say so.
+pub fn says_something_else()
+    ensures { SaysOther }
+{}
+
+/// A rank that waits in a synchronous send is stuck, and doesn't rest.
+pub fn waits_in_synchronous_send()
+    ensures { WaitsInSsend }
+{}
+
+/// A rank doesn't rest behind a send that was refused, though nobody received the message that it sent before.
+pub fn send_was_refused()
+    ensures { IsRefused }
+{}

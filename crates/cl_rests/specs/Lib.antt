@@ -1,0 +1,4 @@
+pub mod Needing
+pub mod Telling
+pub mod Behind
+pub mod Held

@@ -1,5 +1,0 @@
-use Rattle.cl_verdict_laws.proofs.Unpaired as law
-use Rattle.cl_verdict_laws.proofs.laws.unpaired_law.Goals as goal
-
-pub returns : goal.returns
-returns c = law.unpaired_law
