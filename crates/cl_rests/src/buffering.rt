@@ -104,9 +104,9 @@ fn some_rests(among: &[u8], standing: &Standing) -> bool
     false
 }
 
-/// The most ranks that are held up together, in rising order, where each has one hart: each of them has ended, waits in vain
-/// for what they alone could bring, or rests behind a send that one of them could receive. None where none of them rests. The
-/// only error is want of memory.
+/// The ranks that need buffers, in ascending order, if each rank has one hart: the largest set in which each rank has ended,
+/// waits for something that only the set could bring, or rests behind a send to one of them. `None` if no rank of that set
+/// rests. The only error is running out of memory.
 pub fn needing(alloc: Global, standing: &Standing) -> Result<Option<Vec<u8>>, AllocError>
     ensures { IfOk result (λ found. TellsNeed standing.now (option_map (λ ranks. ranks.items) found)) }
 {

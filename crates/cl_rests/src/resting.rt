@@ -116,7 +116,8 @@ pub(crate) fn receiver(standing: &Standing, rank: u8) -> Option<u8>
     }
 }
 
-/// Whether the rank's first hart stands behind a SEND whose message neither a receive nor a matched probe has.
+/// Whether the rank has just made a SEND whose message no receive or matched probe has taken: its first hart is at the
+/// instruction behind the call.
 pub fn rests(standing: &Standing, rank: u8) -> bool
     ensures { IsRestAt standing.now rank result }
 {

@@ -1,4 +1,4 @@
--- What is told of ranks that need buffers.
+-- The text that `explore` prints for ranks that need buffers.
 use Rattle.std.specs.Prelude.{ℕ, ◌-◌, false, List, [], ◌∷◌, ◌++◌, codes, Option, Some, None, slice_get}
 use Rattle.std.specs.List.{flat_map}
 use Rattle.rv_hart.specs.State.{State, at_pc}
