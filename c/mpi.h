@@ -188,8 +188,10 @@ RVMC_INLINE int MPI_Pcontrol(const int level, ...) { (void)level; return MPI_SUC
 /* --- sending and receiving (3.2, 3.4) --- */
 
 /* What MPI_Send, MPI_Isend and MPI_Send_init ask the machine for: a send that copies its bytes and returns. With rvmc-cc
-   --unbuffered they wait for their receive, as MPI lets a standard send do. What else sends, in this file or in the library,
-   asks for RVMC_SEND or RVMC_ISEND itself and never waits; of a SEND it says so (rvmc_own_send, lib/call.h). */
+   --unbuffered they wait for their receive, as MPI lets a standard send do. Where `rvmc explore` asks which ranks need
+   buffers, it lets MPI_Send wait, and MPI_Wait and MPI_Waitall of the others. What else sends, in this file or in the library,
+   never waits: it asks for RVMC_SEND and says so (rvmc_own_send, lib/call.h), or for RVMC_ISEND, and completes that by
+   RVMC_TEST. */
 #ifdef RVMC_UNBUFFERED
 enum { RVMC_STANDARD_SEND = RVMC_SSEND, RVMC_STANDARD_ISEND = RVMC_ISSEND };
 #else

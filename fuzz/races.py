@@ -2,6 +2,7 @@
 such as fit together, and calls between that look what is there."""
 
 import assembler
+import why
 
 # where a hart's code stands: behind its rank's and its own number
 DISPATCH = """\
@@ -17,6 +18,9 @@ _start: slli t0, a1, 1
 
 # parts of the room: lists of handles, what comes in, statuses, and what goes out
 LISTS, INCOMING, STATUSES, OUTGOING, ROOM = 0, 64, 128, 192, 256
+
+# the argument that stands behind the room: what a call has in a5 that says that a send is buffered
+BUFFERED = object()
 
 SEND, SSEND, RECV, ISEND, ISSEND, IRECV, TEST, WAIT, IPROBE, PROBE = range(16, 26)
 IMPROBE, MPROBE, IMRECV, MRECV, SEND_INIT, RECV_INIT, START, FREE, TESTALL, WAITALL = range(26, 36)
@@ -54,7 +58,10 @@ class Races:
 
     @staticmethod
     def value(number, it):
-        """The lines that give argument `number` a value: a number, a register's name, or an address in the room."""
+        """The lines that give argument `number` a value: a number, a register's name, an address in the room, or the word that
+        says that a send is buffered."""
+        if it is BUFFERED:
+            return [f"ld a{number}, {ROOM}(s0)"]
         if isinstance(it, str):
             return [f"mv a{number}, {it}"]
         if isinstance(it, tuple):
@@ -118,10 +125,12 @@ class Races:
         array = [f"sd {handle}, {lists[0]}(s0)", f"sd {other}, {lists[0] + 8}(s0)"]
         return self.draw.one(
             (lambda: [self.call(WAIT, handle, self.status())], 6),
+            (lambda: [self.call(WAIT, handle, 0, 0, 0, 0, BUFFERED)], 0.5),
             (lambda: [self.call(TEST, handle, self.status())], 2),
             (lambda: [self.again(TEST, handle, self.status())], 2),
             (lambda: [self.call(TEST, handle, 0), self.call(WAIT, handle, self.status())], 2),
             (lambda: [array + self.call(WAITALL, lists, 1 + self.below(2), 0)], 2),
+            (lambda: [array + self.call(WAITALL, lists, 1, 0, 0, 0, BUFFERED)], 0.5),
             (lambda: [array + self.call(TESTALL, lists, 1 + self.below(2), 0)], 1),
             (lambda: [array + self.again(TESTALL, lists, 1, 0)], 1),
             (lambda: [], 1),
@@ -147,6 +156,7 @@ class Races:
         words = [buffer, count, self.comms[comm].index(dest), tag, comm]
         return self.draw.one(
             (lambda: [self.call(SEND, *words)], 5),
+            (lambda: [self.call(SEND, *words, BUFFERED)], 0.5),
             (lambda: [self.call(SSEND, *words)], 3),
             (lambda: self.opened(ISEND, *words), 2),
             (lambda: self.opened(ISSEND, *words), 3),
@@ -263,7 +273,7 @@ class Races:
             lines += [f"code{number}:", *self.merged([] if hart >= self.harts else things_of(rank, hart))]
             lines += self.call(1, (INCOMING,), shown) if shown and hart < self.harts else []
             lines += ["mv a0, s11", "li a7, 0", "ecall"]
-        lines += [".data", f"room: .zero {ROOM}", ".balign 8", "codes:"]
+        lines += [".data", f"room: .zero {ROOM}", f".dword {why.BUFFERED}", "codes:"]
         lines += [".dword " + ", ".join(f"code{number}" for number in range(2 * self.ranks))]
         image = assembler.assembled("\n".join(lines).encode() + b"\n")
         image.data = bytes(OUTGOING) + bytes(range(1, 1 + ROOM - OUTGOING)) + image.data[ROOM:]

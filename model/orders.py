@@ -111,12 +111,12 @@ def copy_of_boxes(boxes):
 
 
 def key_of_request(request, name):
-    """A request's fields, with what its post is called."""
+    """A request's fields, with what its post is called, and that of a standard send."""
     transfer, side = request.transfer, request.side
     fields = (transfer.at, transfer.count, transfer.peer, transfer.tag, transfer.comm, transfer.parts)
     phase = side and (side.link, side.parts, side.size, tuple(sorted(side.ready)), side.freed, side.cut)
     taken = side and tuple(sorted(side.taken))
-    return request.kind, request.persistent, request.active, fields, phase, taken, name(request.post)
+    return request.kind, request.persistent, request.active, fields, phase, taken, name(request.post), name(request.sent)
 
 
 def key_of_rank(rank, name=lambda number: number):
@@ -430,8 +430,8 @@ class Ahead(Search):
 
 
 class Resting(Search):
-    """The states in which a rank takes no turn by itself where it rests, behind a standard send that nobody received. Ranks have
-    one hart each. MPI lets such a send wait."""
+    """The states in which a rank takes no turn by itself where it rests: behind a standard send that nobody received, or before a
+    WAIT or WAITALL of one. Ranks have one hart each. MPI lets such a send wait."""
 
     def __init__(self, image, plan, most):
         super().__init__(image, plan, False, most)
@@ -439,7 +439,7 @@ class Resting(Search):
         self.needs = set()
 
     def stays(self, rank, hub):
-        return why.receiver_of(hub, rank, [list(range(self.image.ranks)), *self.image.comms]) is not None
+        return why.rest_of(hub, rank, [list(range(self.image.ranks)), *self.image.comms]) is not None
 
     def is_met(self, rank, hart):
         return True

@@ -47,6 +47,8 @@ class Request:
         self.active = not persistent
         # the post that is still asked for, or None where nothing is
         self.post = None
+        # the post of a standard send that is under way, of which nobody is asked, or None
+        self.sent = None
         # of a partitioned request: its side
         self.side = None
 
@@ -379,7 +381,8 @@ class Rank:
         reply = self.ask_send(transfer, sync)
         if reply[0] == 0:
             return self.back(reply[1])
-        request.post = None if reply[9] else int.from_bytes(reply[1:9], "little")
+        number = int.from_bytes(reply[1:9], "little")
+        request.post, request.sent = None if reply[9] else number, None if sync else number
         return self.open(request)
 
     def isend(self, at, count, dest, tag, comm, *_):
@@ -415,14 +418,19 @@ class Rank:
         if request is None:
             return
         if request.persistent:
-            request.active, request.post = False, None
+            request.active, request.post, request.sent = False, None, None
         else:
             del self.requests[handle]
 
-    def try_with(self, waits, handle, status):
-        """TEST and WAIT."""
+    def check_one(self, handle, status):
+        """The checks of TEST and WAIT: the open request, or None."""
         request = None if handle == 0 else self.request(handle)
         self.check_status(status)
+        return request
+
+    def try_with(self, waits, handle, status):
+        """TEST and WAIT."""
+        request = self.check_one(handle, status)
         if request is not None and request.active and request.is_partitioned():
             return self.try_phase(waits, handle, request, status)
         if request is None or not request.active or request.post is None:
@@ -555,6 +563,7 @@ class Rank:
             reply = self.ask_send(request.transfer, False)
             if reply[0] == 0:
                 return self.back(reply[1])
+            request.sent = int.from_bytes(reply[1:9], "little")
         else:
             request.post = int.from_bytes(self.ask_recv(request.transfer, False)[1:9], "little")
         request.active = True
@@ -570,21 +579,25 @@ class Rank:
 
     # ---- several at once
 
-    def several(self, waits, at, count, statuses):
-        """TESTALL and WAITALL."""
+    def check_several(self, at, count, statuses):
+        """The checks of TESTALL and WAITALL: the handles."""
         check(count <= MOST_HANDLES, BAD_COUNT)
         check(self.memory.can_read(at, 8 * count), BAD_BUFFER)
-        handles = [self.memory.word(at + 8 * place) for place in range(count)]
-        asked, seen = [], set()
+        handles, seen = [self.memory.word(at + 8 * place) for place in range(count)], set()
         for handle in handles:
             request = self.requests.get(handle)
             check(handle == 0 or (request is not None and not request.is_partitioned()), BAD_REQUEST)
             if request is not None and request.active:
                 check(handle not in seen, BAD_REQUEST)
                 seen.add(handle)
-                if request.post is not None:
-                    asked.append(request)
         check(statuses == 0 or self.memory.can_write(statuses, 24 * count), BAD_BUFFER)
+        return handles
+
+    def several(self, waits, at, count, statuses):
+        """TESTALL and WAITALL."""
+        handles = self.check_several(at, count, statuses)
+        named = [self.requests.get(handle) for handle in handles]
+        asked = [request for request in named if request is not None and request.active and request.post is not None]
         gots = {}
         if asked:
             reply = self.ask("all", [request.post for request in asked])
@@ -627,6 +640,26 @@ class Rank:
     def waitall(self, at, count, statuses, *_):
         """WAITALL."""
         self.several(True, at, count, statuses)
+
+    def handles_ahead(self, hart):
+        """The handles of the WAIT or WAITALL that a hart makes in its next turn: none where it makes none, or a check refuses
+        it."""
+        is_again = hart.mode == WAITING and hart.why is None
+        if not is_again and not (hart.mode == RUNNING and is_at_call(hart, self.memory)):
+            return []
+        call, words = ROWS.get(hart.regs[17]), hart.regs[10:13]
+        try:
+            if call is Rank.wait_for:
+                self.check_one(*words[:2])
+                return words[:1]
+            return self.check_several(*words) if call is Rank.waitall else []
+        except Refused:
+            return []
+
+    def sends_ahead(self, hart):
+        """The posts of the standard sends that such a call is to complete, in the order of the handles."""
+        named = [self.requests.get(handle) for handle in self.handles_ahead(hart)]
+        return [request.sent for request in named if request is not None and request.sent is not None]
 
     # ---- partitioned requests
 

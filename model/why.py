@@ -25,7 +25,7 @@ CAUSES = [
 ]
 STORE_ACCESS = 7
 
-# what a SEND has in a5 whose message its sender buffers itself
+# what a SEND has in a5 whose message its sender buffers itself, and a WAIT or WAITALL of such sends
 BUFFERED = int.from_bytes(b"buffered", "little")
 
 
@@ -221,9 +221,15 @@ def told_of_company(cluster):
     return ("".join(lines) + f"{named(ranks)} while others run on\n").encode() if ranks else b""
 
 
-def receiver_of(hub, rank, comms):
-    """The rank that is to receive what a rank sent where it rests, which is right behind a standard send whose message nobody
-    received. None where it doesn't rest."""
+class Rest:
+    """Where a rank rests: its hart as it is at the call, and the ranks that are to receive what it sent."""
+
+    def __init__(self, hart, receivers):
+        self.hart, self.receivers = hart, receivers
+
+
+def rest_behind(hub, rank, comms):
+    """A rank that rests right behind a standard send whose message nobody received, or None."""
     hart = rank.harts[0]
     if hart.mode != RUNNING or hart.pc < 4 or bytes(rank.memory.bytes[hart.pc - 4 : hart.pc]) != ECALL.to_bytes(4, "little"):
         return None
@@ -233,32 +239,53 @@ def receiver_of(hub, rank, comms):
         return None
     sends = [post for post in hub.posts if post.kind == "send" and post.partner is None and not post.sync]
     sent = members[dest], (comm, rank.number, tag)
-    return members[dest] if any((post.dest, tuple(post.envelope[:3])) == sent for post in sends) else None
-
-
-def held_line(image, rank, to, waits):
-    """How a rank is held up: where it rests, or what it waits for."""
-    if to is None:
-        return hart_line(image, rank, 0, waits, False)
-    hart = copy.copy(rank.harts[0])
+    if not any((post.dest, tuple(post.envelope[:3])) == sent for post in sends):
+        return None
+    hart = copy.copy(hart)
     hart.pc -= 4
-    return f"rank {rank.number} hart 0 waits at {waiting_text(image, hart, rank.memory, [Wait(f'rank {to} to receive', [to])], False)}\n"
+    return Rest(hart, [members[dest]])
+
+
+def rest_before(hub, rank):
+    """A rank that rests before a WAIT or WAITALL of standard sends of which nobody received one, or None."""
+    hart = rank.harts[0]
+    posts = [] if hart.regs[15] == BUFFERED else [hub.post(number) for number in rank.sends_ahead(hart)]
+    receivers = [post.dest for post in posts if post.partner is None]
+    return Rest(hart, receivers) if receivers else None
+
+
+def rest_of(hub, rank, comms):
+    """Where a rank rests, or None."""
+    return rest_behind(hub, rank, comms) or rest_before(hub, rank)
+
+
+def held_line(cluster, rank, rest, waits):
+    """How a rank is held up: what it waits for, or where it rests and who is to receive. What a WAITALL, before which it rests, waits
+    for in any case comes first."""
+    if rest is None:
+        return hart_line(cluster.image, rank, 0, waits, False)
+    things = Tried(cluster, rank.number, 0).waits() + [Wait(f"rank {to} to receive", [to]) for to in rest.receivers]
+    return f"rank {rank.number} hart 0 waits at {waiting_text(cluster.image, rest.hart, rank.memory, things, False)}\n"
 
 
 def told_of_need(cluster):
     """What is told of the most ranks that are held up together, if one of them rests: nothing where none does. Each rank has one
     hart."""
-    receivers = {rank.number: receiver_of(cluster.hub, rank, cluster.comms) for rank in cluster.ranks}
-    if all(to is None for to in receivers.values()):
+    rests = {rank.number: rest_of(cluster.hub, rank, cluster.comms) for rank in cluster.ranks}
+    if not any(rests.values()):
         return b""
-    waits = waits_of(cluster)
-    among = set(receivers)
-    while free := {rank for rank in among if receivers[rank] not in among and not is_stuck(cluster.ranks[rank], waits, among)}:
+    waits, among = waits_of(cluster), set(rests)
+    while free := {rank for rank in among if not is_held_up(cluster.ranks[rank], rests[rank], waits, among)}:
         among -= free
-    if all(receivers[rank] is None for rank in among):
+    if not any(rests[rank] for rank in among):
         return b""
-    lines = [held_line(cluster.image, cluster.ranks[rank], receivers[rank], waits[rank, 0]) for rank in sorted(among)]
+    lines = [held_line(cluster, cluster.ranks[rank], rests[rank], waits[rank, 0]) for rank in sorted(among)]
     return ("".join(lines) + f"needs buffering: ranks {' '.join(map(str, sorted(among)))}\n").encode()
+
+
+def is_held_up(rank, rest, waits, among):
+    """Whether a rank is stuck, or rests until one of these ranks receives."""
+    return is_stuck(rank, waits, among) or (rest is not None and not among.isdisjoint(rest.receivers))
 
 
 def told(cluster, framed=False):

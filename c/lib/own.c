@@ -9,27 +9,30 @@ struct sender {
     long size;
     int mode, dest, tag;
     MPI_Comm communicator;
-    MPI_Request inner;                            /* of a synchronous send that was started */
+    MPI_Request inner;                            /* of a synchronous or standard send that was started, or null */
     int count;
     MPI_Datatype type;                            /* which a program made, or null */
 };
 
+/* Begins a send of which MPI_Wait asks the machine. A standard one is complete there, but `rvmc explore` looks whether ranks would
+   be stuck if it waited for its receive, as MPI lets it. */
+static long begin(struct sender *s, long number, const void *buffer)
+{
+    rvmc_answer a = rvmc_send(number, buffer, s->size, s->dest, s->tag, s->communicator);
+
+    s->inner = a.code ? MPI_REQUEST_NULL : a.value;
+    return a.code;
+}
+
 static long send(struct sender *s, const void *buffer)
 {
-    rvmc_answer a;
-
-    s->inner = MPI_REQUEST_NULL;
     switch (s->mode) {
-    case RVMC_SYNCHRONOUS:
-        a = rvmc_send(RVMC_ISSEND, buffer, s->size, s->dest, s->tag, s->communicator);
-        s->inner = a.code ? MPI_REQUEST_NULL : a.value;
-        return a.code;
     case RVMC_BUFFERED:
         return rvmc_buffered(buffer, s->size, s->dest, s->tag, s->communicator);
     case RVMC_READY:
         return rvmc_ready(buffer, s->size, s->dest, s->tag, s->communicator);
     default:
-        return rvmc_own_send(buffer, s->size, s->dest, s->tag, s->communicator);
+        return begin(s, s->mode == RVMC_STANDARD ? RVMC_STANDARD_ISEND : RVMC_ISSEND, buffer);
     }
 }
 
@@ -58,17 +61,22 @@ static long asked(long number, MPI_Request *request, int *flag, MPI_Status *stat
     if ((rvmc_kinds[*request] & RVMC_ACTIVE) && number != RVMC_TESTALL)
         a = rvmc_call(number, s->inner, 0, 0, 0, 0, 0);
     *flag = number == RVMC_WAIT || a.value;
-    if (*flag && !a.code)
+    if (*flag && !a.code) {
         rvmc_kinds[*request] &= ~RVMC_ACTIVE;
+        s->inner = MPI_REQUEST_NULL;
+    }
     if (*flag && status)
         *status = rvmc_empty_status;
     return a.code;
 }
 
+/* A send that was started is freed as MPI_Request_free frees any. */
 static void freed(void *thing)
 {
     struct sender *s = thing;
 
+    if (s->inner != MPI_REQUEST_NULL)
+        rvmc_call(RVMC_TEST, s->inner, 0, 0, 0, 0, 0);
     if (s->type)
         rvmc_derived.changed_uses(s->type, -1);
     free(s);
@@ -131,18 +139,19 @@ int MPI_Buffer_detach(void *place, int *size)
 
 int (*rvmc_cancelled)(MPI_Request request, int *error);
 
-/* A send can't be cancelled any more: its message is on its way (3.8.4). */
+/* A send can't be cancelled any more: its message is on its way. But MPI_Wait may not wait for its receive now (3.8.4), so
+   what is complete is completed here: `rvmc explore` would let MPI_Wait wait for a standard one. */
 int MPI_Cancel(MPI_Request *request)
 {
     long code = RVMC_NO_CANCEL;
-    int error;
+    int error, kind = rvmc_kind(*request);
 
     if (rvmc_cancelled && rvmc_cancelled(*request, &error))
         return error;
     if (*request <= 0 || *request > 255)
         code = RVMC_BAD_REQUEST;
-    else if (rvmc_kinds[*request] & RVMC_SENDER)
-        code = RVMC_OK;
+    else if (kind & RVMC_SENDER)
+        code = kind & RVMC_PARTITIONED ? RVMC_OK : rvmc_keep_if_complete(*request);
     return rvmc_request_code("MPI_Cancel", code, *request);
 }
 

@@ -126,6 +126,15 @@ static long looked(MPI_Request request, int *flag, MPI_Status *status)
     return code;
 }
 
+long rvmc_keep_if_complete(MPI_Request request)
+{
+    MPI_Status found;
+    int flag;
+    long code = looked(request, &flag, &found);
+
+    return code == RVMC_SEVERAL_HARTS ? RVMC_OK : code;
+}
+
 int MPI_Request_get_status(MPI_Request request, int *flag, MPI_Status *status)
 {
     MPI_Status found;

@@ -14,6 +14,9 @@ struct rvmc_owner {
 
 #define RVMC_NOT_YET (-1L)
 
+/* Asks whether a request is complete. If it is, MPI_Wait asks nobody any more. Where ranks have several harts, nothing is done. */
+long rvmc_keep_if_complete(MPI_Request request);
+
 /* Makes a request one of a kind; the thing is what the kind knows of it. */
 void rvmc_own_request(MPI_Request request, const struct rvmc_owner *owner, void *thing);
 void *rvmc_owned(MPI_Request request);

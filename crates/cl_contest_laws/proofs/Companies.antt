@@ -58,7 +58,8 @@ use Rattle.cl_reduction_laws.specs.Below.{AskOfLive, AskWithin}
 use Rattle.cl_schedule_laws.specs.Machines.{AllWithin as AllInside, GoesOn}
 use Rattle.cl_reduction_laws.specs.Clusters.{IsAtBox, Search, State, cluster_machine}
 use Rattle.cl_reduction_laws.specs.Patterns.{IsAllowed, by_receiver, by_sender, pattern_of, pattern_of_ask}
-use Rattle.cl_reduction_laws.specs.Settled.{AllWithin, AreOnSides, FindsClaim, IsFit}
+use Rattle.cl_rest_laws.specs.Rests.{rests}
+use Rattle.cl_reduction_laws.specs.Settled.{AllWithin, AreOnSides, FindsClaim, IsFit, IsThere}
 use Rattle.cl_reduction_laws.proofs.Clusters.{cluster_machine_law}
 use Rattle.cl_reduction_laws.proofs.Follows.{asks_live, asks_too, pair, pair_from, waits_too}
 use Rattle.cl_reduction_laws.proofs.AtBoxes.{AtBox, Leaves, freed, misses, readied, took}
@@ -551,6 +552,18 @@ module _ (search : Search) (image : ImageParts) (ranks : List ℕ) where
   claims_none c r x (Ask.Freed link part) waits found = found
   claims_none c r x _ waits found = absurd waits
 
+  -- nor is it there
+  there_none : (c : Cluster) (r : ℕ) (x : Rank) (ask : Ask) → WaitsAt (hub_of c.journal) c.boxes r x ask → IsThere c r ask → ⊥
+  there_none c r x (Ask.Hub q) waits there = there (reply_is c.journal r q ∙ waits.0)
+  there_none c r x (Ask.Look link part) waits there = there
+  there_none c r x (Ask.Freed link part) waits there = there
+  there_none c r x _ waits there = waits
+
+  pub none_found : (c : Cluster) (r : ℕ) (x : Rank) (ask : Ask) → WaitsAt (hub_of c.journal) c.boxes r x ask
+      → FindsClaim c r ask ⊎ ((rests c r (hart r) ≡ true) × IsThere c r ask) → ⊥
+  none_found c r x ask waits (inl found) = claims_none c r x ask waits found
+  none_found c r x ask waits (inr rest) = there_none c r x ask waits rest.1
+
   -- and so it is in a cluster that is alike
   pub waits_alike : (a b : State search) (alike : Alike search a b) (r : ℕ) (x y : Rank) (ask : Ask) → y.site ≡ x.site
       → AskWithin search.wild r ask → AskOfLive a.cluster ask → WaitsAt (hub_of a.cluster.journal) a.cluster.boxes r x ask
@@ -673,7 +686,7 @@ module _ (search : Search) (image : ImageParts) (ranks : List ℕ) where
           record {
             patient = elim (fit.rests r y there on) [
               | inl patient ↦ patient.0
-              | inr found ↦ absurd (claims_none node.cluster r y (asked y (hart r)) waits found)
+              | inr found ↦ absurd (none_found node.cluster r y (asked y (hart r)) waits found)
             ];
             in_vain = vain_of node.cluster r y (asked y (hart r)) waits;
           }

@@ -1,5 +1,5 @@
 -- Where nobody goes on, a node is an end that is alike.
-use Rattle.std.proofs.Common.{◌≡◌, ◌∙◌, ℕ, refl, sym, ap, subst, arith, inl, inr, List, [], ◌∷◌, length, Some}
+use Rattle.std.proofs.Common.{◌≡◌, ◌∙◌, ◌⊎◌, ℕ, refl, sym, ap, subst, arith, inl, inr, true, List, [], ◌∷◌, length, Some}
 use Rattle.std.specs.Prelude.{get_or, map}
 use Rattle.std.specs.List.{slice_get}
 use Rattle.std.proofs.lemmas.List.{length-map}
@@ -7,6 +7,8 @@ use Rattle.rv_hart.specs.State.{State as Hart}
 use Rattle.rv_hart.specs.declared.state.Mode.{Mode}
 use Rattle.rv_hart.specs.declared.state.Mode.TheVariants.{Running, Waiting, Ended, Trapped}
 use Rattle.rv_hart.specs.declared.state.Wait.TheVariants.{Post, Again}
+use Rattle.mp_types.specs.declared.replies.Reply.TheVariants.{NotYet}
+use Rattle.mp_types.specs.declared.requests.Request.{Request}
 use Rattle.mp_alike_laws.specs.Renaming.{Renaming, number_by, request_by}
 use Rattle.mp_source_laws.proofs.Answers.{answers_law}
 use Rattle.cl_journal.specs.Journal.{calls_of}
@@ -19,12 +21,14 @@ use Rattle.cl_state_laws.specs.Vain.{IsStopped, IsWaiting, mode_of}
 use Rattle.cl_state_laws.specs.VainLaws.{at_clock}
 use Rattle.cl_state_laws.proofs.Wakes.{part_awake}
 use Rattle.cl_order_laws.specs.Alike.{AlikeRanks}
+use Rattle.cl_machine.specs.Journal.{reply_in}
 use Rattle.cl_order_laws.specs.Closed.{IsInVain}
 use Rattle.cl_order_laws.proofs.Ahead.{mode_alike}
 use Rattle.cl_order_laws.proofs.SureHub.{reply_is}
 use Rattle.cl_reduction_laws.specs.Below.{AreAlike, AskOfLive, AskWithin}
 use Rattle.cl_reduction_laws.specs.Clusters.{Search, State}
-use Rattle.cl_reduction_laws.specs.Settled.{FindsClaim, IsFit}
+use Rattle.cl_reduction_laws.specs.Settled.{FindsClaim, IsFit, IsThere}
+use Rattle.cl_rest_laws.specs.Rests.{rests}
 use Rattle.cl_reduction_laws.proofs.Clusters.{cluster_machine_law}
 use Rattle.cl_reduction_laws.proofs.Follows.{asks_live, asks_too, pair, pair_from, waits_too}
 use Rattle.cl_contest_laws.proofs.Rest.{Alike, AllRest, Rests, alike_back, claims_or_vain}
@@ -125,25 +129,49 @@ module _ (search : Search) (zero_harts : (r : ℕ) → search.harts r ≡ 0) (a 
     rests : Rests search node.cluster r y
     mode : mode_of y 0 ≡ mode_by alike.0 (mode_of x 0)
 
-  -- where a rank's call is in vain, so is that of the one that corresponds, which claims nothing then
-  claims_none : (r : ℕ) (x : Rank) → slice_get a.cluster.ranks r ≡ Some x → (q : Ask) → asked x (search.harts r) ≡ q
-      → IsInVain a.cluster r q → FindsClaim node.cluster r (ask_by alike.0 q) → ⊥
-  claims_none r x here (Ask.Hub q) is none found =
-      claims_or_vain node.cluster r (request_by alike.0 q)
-      (reply_is node.cluster.journal r (request_by alike.0 q)
+  -- where a rank's call is in vain, so is that of the one that corresponds
+  vain_too : (r : ℕ) (x : Rank) → slice_get a.cluster.ranks r ≡ Some x → (q : Request) → asked x (search.harts r) ≡ Ask.Hub q
+      → reply_in a.cluster.journal r q ≡ NotYet → reply_in node.cluster.journal r (request_by alike.0 q) ≡ NotYet
+  vain_too r x here q is none =
+      reply_is node.cluster.journal r (request_by alike.0 q)
       ∙ (answers_law.reply) search.wild alike.0 a.cluster.journal.links node.cluster.journal.links
       (calls_of a.cluster.journal.entries) (calls_of node.cluster.journal.entries) r q
       (subst (AskWithin search.wild r) is
       ((cluster_machine_law search).within r node a (alike_back search a node alike) (fit.within r) x here).1)
       (subst (AskOfLive a.cluster) is (asks_live search a r (search.harts r) x here)) (alike.1).hubs
-      ∙ sym (reply_is a.cluster.journal r q) ∙ none) found
-  claims_none r x here Ask.Plain is none found = found
-  claims_none r x here Ask.Local is none found = found
-  claims_none r x here Ask.Idle is none found = found
-  claims_none r x here Ask.Held is none found = found
-  claims_none r x here (Ask.Ready link part bytes) is none found = found
-  claims_none r x here (Ask.Look link part) is none found = found
-  claims_none r x here (Ask.Freed link part) is none found = found
+      ∙ sym (reply_is a.cluster.journal r q) ∙ none
+
+  -- which claims nothing then, and nothing is there
+  none_found : (r : ℕ) (x : Rank) → slice_get a.cluster.ranks r ≡ Some x → (q : Ask) → asked x (search.harts r) ≡ q
+      → IsInVain a.cluster r q → (b : Ask) → b ≡ ask_by alike.0 q
+      → FindsClaim node.cluster r b ⊎ ((rests node.cluster r (search.harts r) ≡ true) × IsThere node.cluster r b) → ⊥
+  none_found r x here q is none b same (inl found) =
+      claims q is none (subst (FindsClaim node.cluster r) same found)
+    where
+      claims : (q : Ask) → asked x (search.harts r) ≡ q → IsInVain a.cluster r q
+          → FindsClaim node.cluster r (ask_by alike.0 q) → ⊥
+      claims (Ask.Hub q) is none found =
+          claims_or_vain node.cluster r (request_by alike.0 q) (vain_too r x here q is none) found
+      claims Ask.Plain is none found = found
+      claims Ask.Local is none found = found
+      claims Ask.Idle is none found = found
+      claims Ask.Held is none found = found
+      claims (Ask.Ready link part bytes) is none found = found
+      claims (Ask.Look link part) is none found = found
+      claims (Ask.Freed link part) is none found = found
+  none_found r x here q is none b same (inr rest) =
+      there q is none (subst (IsThere node.cluster r) same rest.1)
+    where
+      there : (q : Ask) → asked x (search.harts r) ≡ q → IsInVain a.cluster r q
+          → IsThere node.cluster r (ask_by alike.0 q) → ⊥
+      there (Ask.Hub q) is none found = found (vain_too r x here q is none)
+      there Ask.Plain is none found = found
+      there Ask.Local is none found = none
+      there Ask.Idle is none found = found
+      there Ask.Held is none found = found
+      there (Ask.Ready link part bytes) is none found = found
+      there (Ask.Look link part) is none found = found
+      there (Ask.Freed link part) is none found = found
 
   pairs_of : (r : ℕ) (x y : Rank) → slice_get a.cluster.ranks r ≡ Some x → slice_get node.cluster.ranks r ≡ Some y
       → AlikeRanks alike.0 (awake x) (awake y) → Rests search a.cluster r x
@@ -167,8 +195,8 @@ module _ (search : Search) (zero_harts : (r : ℕ) → search.harts r ≡ 0) (a 
               (waiting_too alike.0 (mode_of y (search.harts r)) (mode_of x (search.harts r)) (waits.0).waits (too.0).waits
               (woken_too alike.0 x y both (search.harts r)));
         }
-        | inr found ↦ absurd (claims_none r x here (asked x (search.harts r)) refl waits.1
-            (subst (FindsClaim node.cluster r) (asks_too alike.0 (search.harts r) x y sx sy both) found))
+        | inr found ↦ absurd (none_found r x here (asked x (search.harts r)) refl waits.1 (asked y (search.harts r))
+            (asks_too alike.0 (search.harts r) x y sx sy both) found)
       ]
 
   -- all rest at the node too

@@ -24,6 +24,7 @@ use Rattle.cl_reduction_laws.proofs.Clusters.{cluster_machine_law, first_misses}
 use Rattle.cl_reduction_laws.proofs.First.{polls_on}
 use Rattle.cl_reduction_laws.proofs.Machine.{taken}
 use Rattle.cl_contest_laws.proofs.Good.{good_alike}
+use Rattle.cl_contest_laws.proofs.Quiet.{light_goes}
 use Rattle.cl_contest_laws.proofs.Rest.{alike_back, rest_alike}
 
 -- the rank's hart is stopped, or wherever its turn leads settles
@@ -129,7 +130,10 @@ module _ (search : Search) (Is : Cluster → Type 0) where
         let none = sym (ap (λ o. weight_of o (hart r)) t.there) ∙ light in
         elim (fit.rests r t.rank t.there (light_polls t.rank (hart r) (mode_of t.rank (hart r)) refl none)) [
           | inl waits ↦ rest_alike search r a b t.rank t.there (fit.within r) (inr waits) turn
-          | inr found ↦ absurd (light_claims_none a.cluster r t.rank (hart r) none found)
+          | inr found ↦ elim found [
+            | inl claim ↦ absurd (light_claims_none a.cluster r t.rank (hart r) none claim)
+            | inr rest ↦ (let e = sym rest.0 ∙ light_goes a.cluster r (hart r) t.rank t.there none in absurd (cc))
+          ]
         ]
 
     -- ---- what settles

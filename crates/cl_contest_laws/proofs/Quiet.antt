@@ -1,42 +1,38 @@
 -- Ranks that need buffers stay held up along turns of ranks that go first, and need them at the node to which those lead.
-use Rattle.std.proofs.Common.{◌≡◌, ◌∙◌, ℕ, refl, sym, ap, subst, arith, ◌⊎◌, inl, inr, Bool, true, false, List, Option, Some, None}
-use Rattle.std.specs.Prelude.{◌&&◌, if◌then◌else◌}
+use Rattle.std.proofs.Common.{◌≡◌, ◌∙◌, ℕ, refl, sym, ap, subst, arith, ◌⊎◌, inl, inr, Bool, true, false, List, [], Option, Some, None}
+use Rattle.std.specs.Prelude.{◌&&◌, ◌||◌, ◌==◌, not}
 use Rattle.std.specs.List.{list_any, slice_get}
 use Rattle.std.specs.Option.{option_map}
-use Rattle.std.proofs.lemmas.Bool.{and_left, and_parts, cases_Bool}
+use Rattle.std.proofs.lemmas.Bool.{and_left, cases_Bool}
 use Rattle.std.proofs.lemmas.Option.{same_Some, slice_get-map}
 use Rattle.rv_image_types.specs.declared.images.ImageParts.{ImageParts}
-use Rattle.rv_memory.specs.Access.{word_at}
 use Rattle.rv_hart.specs.declared.state.Mode.{Mode}
 use Rattle.rv_hart.specs.declared.state.Mode.TheVariants.{Running, Waiting, Ended, Trapped}
 use Rattle.rv_hart.specs.declared.state.Wait.TheVariants.{Post, Again}
-use Rattle.mp_types.specs.declared.codes.Code.{Code}
 use Rattle.mp_request.specs.declared.entries.OpenRequest.{OpenRequest}
 use Rattle.mp_request.specs.Table.{request_at}
-use Rattle.mp_wait_laws.specs.Waits.{OnlyOf}
-use Rattle.mp_alike_laws.specs.Renaming.{Renaming}
+use Rattle.mp_match.specs.declared.posts.Sent.{Sent}
+use Rattle.mp_hub.specs.Hub.{HubView}
+use Rattle.mp_alike_laws.specs.Renaming.{Renaming, number_by}
 use Rattle.cl_calls.specs.declared.calls.Call.{Call}
-use Rattle.cl_calls.specs.declared.calls.Call.TheVariants as call
 use Rattle.cl_calls.specs.declared.sites.Site.{Site}
 use Rattle.cl_calls.specs.Calls.{call_named}
 use Rattle.cl_names_laws.specs.Named.{open_by, table_by}
-use Rattle.cl_names_laws.proofs.Asks.{part_named}
 use Rattle.cl_names_laws.proofs.Tables.{request_named}
 use Rattle.cl_state.specs.declared.asking.Ask.{Ask}
-use Rattle.cl_state.specs.Asked.{Part, asked, checked, doing, doing_in, go_or_refuse, is_ecall, part_of}
-use Rattle.cl_state.specs.declared.asking.Doing.TheVariants.{Step}
+use Rattle.cl_state.specs.Asked.{Part, asked, doing, doing_in, part_of}
 use Rattle.cl_state.specs.Rank.{Rank}
-use Rattle.cl_state_laws.specs.Awake.{awake, woken}
+use Rattle.cl_state_laws.specs.Awake.{StandsAtCall, awake, woken}
 use Rattle.cl_state_laws.specs.Members.{AreInside, IsInside}
 use Rattle.cl_state_laws.specs.Vain.{IsStopped, mode_of, waits_on}
-use Rattle.cl_state_laws.proofs.Wakes.{part_awake}
+use Rattle.cl_state_laws.proofs.Wakes.{does_awake, part_awake}
 use Rattle.cl_machine.specs.Cluster.{Cluster}
 use Rattle.cl_deadlock_laws.specs.Stuck.{IsStuckHart, is_among}
 use Rattle.cl_order_laws.specs.Alike.{AlikeRanks, hub_of}
 use Rattle.cl_order_laws.specs.Closed.{IsInVain}
 use Rattle.cl_order_laws.proofs.SureHub.{reply_is}
 use Rattle.cl_rest_laws.specs.Buffering.{NeedBuffers, RestsAmong}
-use Rattle.cl_rest_laws.specs.Rests.{is_behind_call, is_free_to_go, is_message_of, may_wait_for_receipt, receives_from, rests, rests_if, rests_in, spelled, stands_behind_call}
+use Rattle.cl_rest_laws.specs.Rests.{handles_ahead, handles_waited_for, is_behind_call, is_free_to_go, is_message_of, is_open_post, may_wait_for_receipt, post_of_send, rests, rests_before, rests_behind, rests_for, rests_if, rests_in, says_buffered, spelled, stands_behind_call}
 use Rattle.cl_rest_laws.specs.Unpaired.{is_unpaired}
 use Rattle.cl_rest_laws.proofs.Resting.{rest_law}
 use Rattle.cl_schedule_laws.specs.Laws.{IsLasting}
@@ -47,7 +43,7 @@ use Rattle.cl_reduction_laws.proofs.Exchanged.{kept_rank}
 use Rattle.cl_reduction_laws.proofs.Follows.{asks_live, asks_too, pair, pair_from, waits_too, within_too}
 use Rattle.cl_reduction_laws.proofs.Good.{Gone, gone, made_within}
 use Rattle.cl_reduction_laws.proofs.Machine.{IsSame, same_alike, taken}
-use Rattle.cl_contest_laws.proofs.Companies.{WaitsAt, below_one, brings, claims_none, held_of, home_all, out_of, vain_of, waits_alike}
+use Rattle.cl_contest_laws.proofs.Companies.{WaitsAt, below_one, brings, held_of, home_all, none_found, out_of, vain_of, waits_alike}
 use Rattle.cl_contest_laws.proofs.Ends.{many_too, stops_too}
 use Rattle.cl_contest_laws.proofs.Homes.{AreHome, IsHome, links_of, links_stay}
 use Rattle.cl_contest_laws.proofs.Rest.{Alike, stopped_turn, waiting_turn}
@@ -70,10 +66,17 @@ light_free (Waiting Again) light = absurd (omega (arith, light))
 light_free (Ended code) light = absurd (omega (arith, light))
 light_free (Trapped cause pc) light = absurd (omega (arith, light))
 
-stopped_free : (m : Mode) → IsStopped m → is_free_to_go m ≡ true → ⊥
-stopped_free (Ended code) stopped free = absurd (cc)
-stopped_free (Trapped cause pc) stopped free = absurd (cc)
-stopped_free _ stopped free = stopped
+-- and is about to wait for no request
+light_ahead : (site : Site) (p : Part) (m : Mode) → weight_in m ≡ 0 → handles_waited_for p.memory (doing_in m site p) ≡ []
+light_ahead site p (Waiting (Post post)) light = refl
+light_ahead site p Running light = absurd (omega (arith, light))
+light_ahead site p (Waiting Again) light = absurd (omega (arith, light))
+light_ahead site p (Ended code) light = absurd (omega (arith, light))
+light_ahead site p (Trapped cause pc) light = absurd (omega (arith, light))
+
+none_ahead : (x : Rank) (hart : ℕ) → weight_in (mode_of x hart) ≡ 0 → handles_ahead x hart ≡ []
+unfolding doing
+none_ahead x hart light = light_ahead x.site (part_of x hart) (mode_of x hart) light
 
 stands_awake : (x : Rank) (hart : ℕ) → stands_behind_call (awake x) hart ≡ stands_behind_call x hart
 stands_awake x hart =
@@ -86,66 +89,60 @@ stands_awake x hart =
 spelled_awake : (x : Rank) (hart : ℕ) → spelled (awake x) hart ≡ spelled x hart
 spelled_awake x hart = ap (λ (p : Part). call_named p.hart) (part_awake x hart)
 
-spelled_too : (names : Renaming) (x y : Rank) → AlikeRanks names (awake x) (awake y) → (hart : ℕ)
-    → spelled y hart ≡ spelled x hart
-spelled_too names x y alike hart =
-    sym (spelled_awake y hart) ∙ ap (λ (z : Rank). spelled z hart) alike.1
-    ∙ ap (λ (p : Part). call_named p.hart) (part_named names (awake x) hart) ∙ spelled_awake x hart
+-- so a hart that stands at the call that it is to make anew rests whether it is awake or not
+module _ (p : Sent → Bool) (hub : HubView) (r hart : ℕ) where
+  behind_awake : (x : Rank) → rests_behind p hub r (awake x) hart ≡ rests_behind p hub r x hart
+  behind_awake x =
+      ap (λ b. b && sent (spelled (awake x) hart)) (stands_awake x hart)
+      ∙ ap (λ k. stands_behind_call x hart && sent k) (spelled_awake x hart)
+    where
+      sent : Call → Bool
+      sent k = list_any (is_unpaired (λ m. is_message_of x.site r k m && p m)) hub.board.lines
 
--- so a hart rests whether it is awake or not
-rests_awake : (c : Cluster) (r hart : ℕ) → rests (awake_cluster c) r hart ≡ rests c r hart
-rests_awake c r hart =
-    ap (λ o. rests_if (hub_of c.journal) r o hart) (slice_get-map awake c.ranks r) ∙ go (slice_get c.ranks r)
+  before_awake : (x : Rank) → StandsAtCall x hart → rests_before p hub r (awake x) hart ≡ rests_before p hub r x hart
+  before_awake x stands =
+      ap (λ (q : Part). not (says_buffered q.hart) && open_sends (handles_ahead (awake x) hart)) (part_awake x hart)
+      ∙ ap (λ d. not (says_buffered (part_of x hart).hart) && open_sends (handles_waited_for x.memory d))
+      (does_awake x hart stands)
+    where
+      open_sends : List ℕ → Bool
+      open_sends = list_any (λ h. is_open_post p r hub.board.lines (post_of_send (request_at x.requests h)))
+
+  in_awake : (x : Rank) → StandsAtCall x hart → rests_in p hub r (awake x) hart ≡ rests_in p hub r x hart
+  in_awake x stands =
+      ap (λ b. b || rests_before p hub r (awake x) hart) (behind_awake x)
+      ∙ ap (λ b. rests_behind p hub r x hart || b) (before_awake x stands)
+
+rests_awake : (p : Sent → Bool) (c : Cluster) (r hart : ℕ)
+    → ((x : Rank) → slice_get c.ranks r ≡ Some x → StandsAtCall x hart)
+    → rests_if p (hub_of c.journal) r (slice_get (awake_cluster c).ranks r) hart
+    ≡ rests_if p (hub_of c.journal) r (slice_get c.ranks r) hart
+rests_awake p c r hart stands =
+    ap (λ o. rests_if p (hub_of c.journal) r o hart) (slice_get-map awake c.ranks r) ∙ go (slice_get c.ranks r) stands
   where
-    go : (o : Option Rank) → rests_if (hub_of c.journal) r (option_map awake o) hart ≡ rests_if (hub_of c.journal) r o hart
-    go None = refl
-    go (Some x) =
-        ap (λ b. b && sent (spelled (awake x) hart)) (stands_awake x hart)
-        ∙ ap (λ k. stands_behind_call x hart && sent k) (spelled_awake x hart)
-      where
-        sent : Call → Bool
-        sent k = list_any (is_unpaired (is_message_of x.site r k)) (hub_of c.journal).board.lines
+    go : (o : Option Rank) → ((x : Rank) → o ≡ Some x → StandsAtCall x hart)
+        → rests_if p (hub_of c.journal) r (option_map awake o) hart ≡ rests_if p (hub_of c.journal) r o hart
+    go None at = refl
+    go (Some x) at = in_awake p (hub_of c.journal) r hart x (at x refl)
 
-rests_in_there : (c : Cluster) (r hart : ℕ) (x : Rank) → slice_get c.ranks r ≡ Some x
-    → rests c r hart ≡ rests_in (hub_of c.journal) r x hart
-rests_in_there c r hart x there = ap (λ o. rests_if (hub_of c.journal) r o hart) there
-
-light_goes : (c : Cluster) (r hart : ℕ) (x : Rank) → slice_get c.ranks r ≡ Some x → weight_in (mode_of x hart) ≡ 0
+-- a hart that polls a post doesn't rest
+pub light_goes : (c : Cluster) (r hart : ℕ) (x : Rank) → slice_get c.ranks r ≡ Some x → weight_in (mode_of x hart) ≡ 0
     → rests c r hart ≡ false
 light_goes c r hart x there light =
-    rests_in_there c r hart x there
-    ∙ and_left _ _ (and_left _ _ (light_free (mode_of x hart) light))
+    ap (λ o. rests_if (λ m. true) hub r o hart) there
+    ∙ ap (λ b. b || rests_before (λ m. true) hub r x hart)
+    (and_left _ _ (and_left _ _ (light_free (mode_of x hart) light)))
+    ∙ ap (λ hs. not (says_buffered (part_of x hart).hart)
+    && list_any (λ h. is_open_post (λ m. true) r hub.board.lines (post_of_send (request_at x.requests h))) hs)
+    (none_ahead x hart light)
+    ∙ no_false (not (says_buffered (part_of x hart).hart))
+  where
+    hub : HubView
+    hub = hub_of c.journal
 
-rests_free : (c : Cluster) (r hart : ℕ) (x : Rank) → slice_get c.ranks r ≡ Some x → rests c r hart ≡ true
-    → is_free_to_go (mode_of x hart) ≡ true
-rests_free c r hart x there is =
-    (and_parts _ _ (and_parts _ _ (sym (rests_in_there c r hart x there) ∙ is)).0).0
-
--- a hart that waits, and is free to go, stands at a call that sends nothing
-module _ (site : Site) (k : ℕ) where
-  waits_or_sends : (o : Option Code) (c : Call) → waits_on (go_or_refuse o c) ≡ true → receives_from site c k ≡ true → ⊥
-  waits_or_sends None (call.Send s) on sends = absurd (cc)
-  waits_or_sends None _ on sends = absurd (cc)
-  waits_or_sends (Some code) c on sends = absurd (cc)
-
-  free_or_sends : (m : Mode) (p : Part) → is_free_to_go m ≡ true → waits_on (doing_in m site p) ≡ true
-      → receives_from site (call_named p.hart) k ≡ true → ⊥
-  free_or_sends Running p free on sends = go (is_ecall (word_at p.memory p.hart.pc)) on
-    where
-      go : (b : Bool) → waits_on (if b then checked site p else Step) ≡ true → ⊥
-      go true on = waits_or_sends _ (call_named p.hart) on sends
-      go false on = absurd (cc)
-  free_or_sends (Waiting Again) p free on sends = waits_or_sends _ (call_named p.hart) on sends
-  free_or_sends (Waiting (Post post)) p free on sends = absurd (cc)
-  free_or_sends (Ended code) p free on sends = absurd (cc)
-  free_or_sends (Trapped cause pc) p free on sends = absurd (cc)
-
-rests_or_waits : (c : Cluster) (r hart k : ℕ) (x : Rank) → slice_get c.ranks r ≡ Some x → rests c r hart ≡ true
-    → waits_on (doing x.site (part_of x hart)) ≡ true → receives_from x.site (spelled x hart) k ≡ true
-    → ⊥
-unfolding doing
-rests_or_waits c r hart k x there is on sends =
-    free_or_sends x.site k (mode_of x hart) (part_of x hart) (rests_free c r hart x there is) on sends
+    no_false : (b : Bool) → (b && false) ≡ false
+    no_false true = refl
+    no_false false = refl
 
 -- ---- ranks that are alike are at home in one image
 
@@ -155,7 +152,7 @@ home_alike names image r x y alike home = record {
   site = site ∙ home.site;
   inside = subst (λ (z : Site). AreInside z y.requests) (sym site)
       (λ handle q here. go handle q (request_at x.requests handle) refl
-      (sym (request_named names x.requests handle) ∙ ap (λ t. request_at t handle) (sym requests) ∙ here));
+      (sym (request_named names (number_by names) x.requests handle) ∙ ap (λ t. request_at t handle) (sym requests) ∙ here));
   one = many_too names x y alike ∙ home.one;
 }
   where
@@ -184,14 +181,14 @@ module _ (search : Search) (image : ImageParts) (ranks : List ℕ) where
 
   abbrev IsHeldUp : Cluster → ℕ → Rank → Type 0
   IsHeldUp c r x =
-      IsStopped (mode_of x (search.harts r)) ⊎ (WaitsOn c r x ⊎ RestsAmong ranks c r x (search.harts r))
+      IsStopped (mode_of x (search.harts r)) ⊎ (WaitsOn c r x ⊎ RestsAmong ranks c r (search.harts r))
 
   record SomeRest (c : Cluster) : Type 0 where
     r : ℕ
     rank : Rank
     among : is_among ranks r ≡ true
     there : slice_get c.ranks r ≡ Some rank
-    rest : RestsAmong ranks c r rank (search.harts r)
+    rest : RestsAmong ranks c r (search.harts r)
 
   -- each of these ranks is held up, and one rests. Who waits may be about to make its call for the first time: clusters are
   -- alike whichever it is
@@ -205,27 +202,24 @@ module _ (search : Search) (image : ImageParts) (ranks : List ℕ) where
   -- ---- in clusters that are alike
 
   module _ (a b : State search) (alike : Alike search a b) where
-    rests_too : (r h : ℕ) → rests b.cluster r h ≡ rests a.cluster r h
-    rests_too r h =
-        sym (rests_awake b.cluster r h)
-        ∙ (rest_law.alike) search.wild (awake_cluster a.cluster) (awake_cluster b.cluster) r h alike
-        ∙ rests_awake a.cluster r h
+    rests_too : (r k : ℕ) → rests_for b.cluster r (hart r) k ≡ rests_for a.cluster r (hart r) k
+    rests_too r k =
+        sym (rests_awake (λ m. m.dest == k) b.cluster r (hart r) ((b.good).stands r))
+        ∙ (rest_law.alike_for) search.wild (awake_cluster a.cluster) (awake_cluster b.cluster) r (hart r) k alike
+        ∙ rests_awake (λ m. m.dest == k) a.cluster r (hart r) ((a.good).stands r)
 
-    rest_alike : (r h : ℕ) (x y : Rank) → AlikeRanks alike.0 (awake x) (awake y) → RestsAmong ranks a.cluster r x h
-        → RestsAmong ranks b.cluster r y h
-    rest_alike r h x y both rest = record {
-      rests_there = rests_too r h ∙ rest.rests_there;
-      only = λ k could.
-          rest.only k
-          (ap (λ (z : Site). receives_from z (spelled x h) k) (sym (ap (λ (z : Rank). z.site) both.1))
-          ∙ ap (λ c. receives_from y.site c k) (sym (spelled_too alike.0 x y both h)) ∙ could);
+    rest_alike : (r : ℕ) → RestsAmong ranks a.cluster r (hart r) → RestsAmong ranks b.cluster r (hart r)
+    rest_alike r rest = record {
+      receiver = rest.receiver;
+      among = rest.among;
+      rests_there = rests_too r rest.receiver ∙ rest.rests_there;
     }
 
     held_alike : (r : ℕ) (x y : Rank) → IsWithin search a.cluster r → slice_get a.cluster.ranks r ≡ Some x
         → slice_get b.cluster.ranks r ≡ Some y → AlikeRanks alike.0 (awake x) (awake y) → IsHeldUp a.cluster r x
         → IsHeldUp b.cluster r y
     held_alike r x y within here there both (inl stopped) = inl (stops_too alike.0 x y both (hart r) stopped)
-    held_alike r x y within here there both (inr (inr rest)) = inr (inr (rest_alike r (hart r) x y both rest))
+    held_alike r x y within here there both (inr (inr rest)) = inr (inr (rest_alike r rest))
     held_alike r x y within here there both (inr (inl w)) =
         let sx = (a.good).stands r x here in
         let sy = (b.good).stands r y there in
@@ -251,7 +245,7 @@ module _ (search : Search) (image : ImageParts) (ranks : List ℕ) where
             rank = p.other;
             among = w.among;
             there = p.there;
-            rest = rest_alike w.r (hart w.r) w.rank p.other p.alike w.rest;
+            rest = rest_alike w.r w.rest;
           };
       home = λ r y there.
           let f = pair_from search r a.cluster b.cluster alike y there in
@@ -274,25 +268,20 @@ module _ (search : Search) (image : ImageParts) (ranks : List ℕ) where
   mine r c new x here goes (inl stopped) went = stopped_turn search r c new x here stopped went
   mine r c new x here goes (inr (inl w)) went =
       waiting_turn search r c new x here w.on (none_there c r x (asked x (hart r)) w.waits) went
-  mine r c new x here goes (inr (inr rest)) went = (let e = sym goes ∙ rest.rests_there in absurd (cc))
+  mine r c new x here goes (inr (inr rest)) went =
+      (let e = sym goes ∙ (rest_law.each) c r (hart r) rest.receiver rest.rests_there in absurd (cc))
 
   -- a turn of another rank brings them nothing, and receives nothing from those that rest
   module _ (r : ℕ) (c new : Cluster) (x : Rank) (here : slice_get c.ranks r ≡ Some x) (out : is_among ranks r ≡ false)
       (turn : Turn r (search.harts r) c new) (quiet : AreQuiet c) (within : IsWithin search c r)
       (went : Gone r (search.harts r) c new x) where
-    receives_none : (s : ℕ) (y : Rank) → RestsAmong ranks c s y (hart s) → receives_from y.site (spelled y (hart s)) r ≡ false
-    receives_none s y rest = elim (cases_Bool (receives_from y.site (spelled y (hart s)) r)) [
-      | inl could ↦ (let e = sym out ∙ rest.only r could in absurd (cc))
-      | inr none ↦ none
-    ]
-
-    rest_stays : (s : ℕ) (y : Rank) → is_among ranks s ≡ true → slice_get c.ranks s ≡ Some y
-        → RestsAmong ranks c s y (hart s) → RestsAmong ranks new s y (hart s)
-    rest_stays s y among at rest = record {
+    rest_stays : (s : ℕ) → is_among ranks s ≡ true → RestsAmong ranks c s (hart s) → RestsAmong ranks new s (hart s)
+    rest_stays s among rest = record {
+      receiver = rest.receiver;
+      among = rest.among;
       rests_there =
-          (rest_law.stays) c new s r (hart r) (hart s) y (out_of search image ranks r s out among) at (receives_none s y rest)
-          turn rest.rests_there;
-      only = rest.only;
+          (rest_law.stays) c new s r (hart r) (hart s) rest.receiver (out_of search image ranks r s out among)
+          (out_of search image ranks r rest.receiver out rest.among) turn rest.rests_there;
     }
 
     theirs : AreQuiet new
@@ -310,7 +299,7 @@ module _ (search : Search) (image : ImageParts) (ranks : List ℕ) where
                 | inr up ↦ inr (elim up [
                   | inl waits ↦
                       inl (record { on = waits.on; waits = b.waits s y among own (quiet.home s y at) waits.waits })
-                  | inr rest ↦ inr (rest_stays s y among at rest)
+                  | inr rest ↦ inr (rest_stays s among rest)
                 ])
               ];
           within = λ s among z there. quiet.within s among z (sym (kept s among) ∙ there);
@@ -319,7 +308,7 @@ module _ (search : Search) (image : ImageParts) (ranks : List ℕ) where
             rank = w.rank;
             among = w.among;
             there = kept w.r w.among ∙ w.there;
-            rest = rest_stays w.r w.rank w.among w.there w.rest;
+            rest = rest_stays w.r w.among w.rest;
           };
           home = home_all search image ranks r c new x b.then here b.ranks_are quiet.home (b.home own);
           sides = subst (λ ls. AreOnSides ls search.patterns) (sym (links_stay r (hart r) c new x went)) quiet.sides;
@@ -365,13 +354,12 @@ module _ (search : Search) (image : ImageParts) (ranks : List ℕ) where
           let same : w.hart ≡ hart w.r =
           (let none = zero_harts w.r in let one = (home w.r w.rank w.there).one in let below = w.inside in
           omega (arith, none, one, below)) in
-          let is = subst (λ h. rests c w.r h ≡ true) same w.rests_there in
           record {
             r = w.r;
             rank = w.rank;
             among = w.among;
             there = w.there;
-            rest = record { rests_there = is; only = only w.r w.rank w.there is (up w.r w.rank w.among w.there) };
+            rest = subst (RestsAmong ranks c w.r) same w.rests_there;
           };
       home = home;
       sides = sides;
@@ -391,13 +379,6 @@ module _ (search : Search) (image : ImageParts) (ranks : List ℕ) where
               ])
             ]
 
-        only : (r : ℕ) (x : Rank) → slice_get c.ranks r ≡ Some x → rests c r (hart r) ≡ true → IsHeldUp c r x
-            → OnlyOf (is_among ranks) (receives_from x.site (spelled x (hart r)))
-        only r x there is (inl stopped) k could =
-            absurd (stopped_free (mode_of x (hart r)) stopped (rests_free c r (hart r) x there is))
-        only r x there is (inr (inl w)) k could = absurd (rests_or_waits c r (hart r) k x there is w.on could)
-        only r x there is (inr (inr rest)) k could = rest.only k could
-
     pub need_there : (c : Cluster) → IsFit search c → AreQuiet c → NeedBuffers ranks c
     need_there c fit quiet =
         let w = quiet.some in
@@ -405,7 +386,7 @@ module _ (search : Search) (image : ImageParts) (ranks : List ℕ) where
           held = λ r y h among there below.
               let same : hart r ≡ h =
               (let none = zero_harts r in let one = (quiet.home r y there).one in omega (arith, none, one, below)) in
-              subst (λ k. IsStopped (mode_of y k) ⊎ (IsStuckHart ranks c r y k ⊎ RestsAmong ranks c r y k)) same
+              subst (λ k. IsStopped (mode_of y k) ⊎ (IsStuckHart ranks c r y k ⊎ RestsAmong ranks c r k)) same
               (elim (quiet.held r y among there) [
                 | inl stopped ↦ inl stopped
                 | inr up ↦ inr (elim up [
@@ -420,7 +401,7 @@ module _ (search : Search) (image : ImageParts) (ranks : List ℕ) where
             among = w.among;
             there = w.there;
             inside = below_one search image ranks zero_harts w.r w.rank (quiet.home w.r w.rank w.there).one;
-            rests_there = (w.rest).rests_there;
+            rests_there = w.rest;
           };
         }
       where
@@ -428,7 +409,7 @@ module _ (search : Search) (image : ImageParts) (ranks : List ℕ) where
         stuck r y there w = record {
           patient = elim (fit.rests r y there w.on) [
             | inl waits ↦ waits.0
-            | inr found ↦ absurd (claims_none search image ranks c r y (asked y (hart r)) w.waits found)
+            | inr found ↦ absurd (none_found search image ranks c r y (asked y (hart r)) w.waits found)
           ];
           in_vain = vain_of search image ranks c r y (asked y (hart r)) w.waits;
         }

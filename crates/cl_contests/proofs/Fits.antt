@@ -19,7 +19,8 @@ use Rattle.cl_machine.specs.Cluster.{Cluster}
 use Rattle.cl_order_laws.specs.Closed.{IsInVain, Node}
 use Rattle.cl_reduction_laws.specs.Below.{AskWithin}
 use Rattle.cl_reduction_laws.specs.Patterns.{IsAllowed, pattern_of_ask}
-use Rattle.cl_reduction_laws.specs.Settled.{AreOnSides, FindsClaim, IsFit}
+use Rattle.cl_rest_laws.specs.Rests.{rests as rests_of}
+use Rattle.cl_reduction_laws.specs.Settled.{AreOnSides, FindsClaim, IsFit, IsThere}
 use Rattle.cl_moves.specs.Standing.{StandsAt}
 use Rattle.cl_moves.specs.declared.standing.Standing.{Standing}
 use Rattle.cl_contests.specs.declared.patterns.AskedBy.{AskedBy}
@@ -36,7 +37,8 @@ claim_found c r q {comm} {source} {tag} is there =
 pub fit_rank : (may_wait : Bool) (kept : List AskedBy) (c : Cluster) (r : ℕ) (rank : Rank) (d : Doing) (ask : Ask) (waits : Bool)
     → d ≡ doing rank.site (part_of rank 0) → waits ≡ waits_on d → ask ≡ asked rank 0
     → IsAllowed (patterns_of kept) r (pattern_of_ask waits ask) → AskWithin (wild_of kept) r ask → StandsAtCall rank 0
-    → (waits ≡ true → (IsWaiting (mode_of rank 0) × IsInVain c r ask) ⊎ FindsClaim c r ask)
+    → (waits ≡ true → (IsWaiting (mode_of rank 0) × IsInVain c r ask)
+    ⊎ (FindsClaim c r ask ⊎ ((rests_of c r 0 ≡ true) × IsThere c r ask)))
     → IsFitRank (search_of may_wait kept) c r rank
 fit_rank may_wait kept c r rank d ask waits spelled anew asks allowed within stands rests =
     let known : waits ≡ waits_on (doing rank.site (part_of rank 0)) = anew ∙ ap waits_on spelled in
@@ -47,7 +49,10 @@ fit_rank may_wait kept c r rank d ask waits spelled anew asks allowed within sta
       rests = λ on.
           elim (rests (known ∙ on)) [
             | inl v ↦ inl (record { waits = v.0; on = on }, subst (IsInVain c r) asks v.1)
-            | inr found ↦ inr (subst (FindsClaim c r) asks found)
+            | inr more ↦ inr (elim more [
+              | inl found ↦ inl (subst (FindsClaim c r) asks found)
+              | inr rest ↦ inr (rest.0, subst (IsThere c r) asks rest.1)
+            ])
           ];
       stands = stands;
     }

@@ -9,8 +9,8 @@ use Rattle.cl_reduction_laws.specs.Clusters.{Search}
 use Rattle.cl_reduction_laws.specs.Patterns.{IsAllowed, pattern_of}
 use Rattle.cl_reduction_laws.specs.Settled.{RestsIfWaiting}
 
--- what its hart asks is within the patterns, the hart waits in vain where it makes a call that is made anew, or finds what it
--- claims, and stands at the call that it is to make anew
+-- what its hart asks is within the patterns, the hart waits in vain where it makes a call that is made anew, finds what it
+-- claims or rests, and stands at the call that it is to make anew
 pub record IsFitRank (search : Search) (c : Cluster) (r : ℕ) (rank : Rank) : Type 0 where
   pub allowed : IsAllowed search.patterns r (pattern_of rank (search.harts r))
   pub within : AskWithin search.wild r (asked rank (search.harts r))

@@ -26,7 +26,7 @@ use Rattle.cl_contests.specs.declared.patterns.AskedBy.{AskedBy}
 use Rattle.cl_contests.specs.Going.{IsFirstHart, LeadsOn, SettlesFrom}
 use Rattle.cl_contests.specs.Kept.{search_of, wild_of}
 
--- the rank doesn't rest behind a standard send, if those may wait for their receives
+-- the rank doesn't rest, if standard sends may wait for their receives
 abbrev pub MayGoFirst : Bool → Standing → ℕ → Type 0
 MayGoFirst may_wait standing r = may_wait ≡ true → IsRestAt standing r false
 

@@ -7,8 +7,10 @@ ghost use Rattle.cl_state_laws.specs.Awake.{StandsAtCall};
 ghost use Rattle.cl_state_laws.specs.Vain.{IsWaiting, mode_of};
 ghost use Rattle.cl_machine.specs.Cluster.{Cluster};
 ghost use Rattle.cl_replay.specs.States.{ClusterStandsFor};
-ghost use Rattle.cl_order_laws.specs.Closed.{IsInVain};
-ghost use Rattle.cl_reduction_laws.specs.Settled.{FindsClaim};
+ghost use Rattle.cl_order_laws.specs.Closed.{IsInVain, Node};
+ghost use Rattle.cl_rest_laws.specs.Rests.{rests as rests_of};
+ghost use Rattle.cl_reduction_laws.specs.Settled.{FindsClaim, IsThere};
+ghost use Rattle.cl_moves.specs.Standing.{StandsAt};
 ghost use Rattle.cl_contests.specs.Kept.{search_of};
 ghost use Rattle.cl_contests.specs.Fits.{IsFitRank};
 ghost use Rattle.cl_contests.specs.Going.{TellsFit};
@@ -18,6 +20,7 @@ use crate::patterns::Patterns;
 use crate::starts::waits_within;
 use cl_moves::{MoveFault, Standing, is_in_vain};
 use cl_replay::ClusterState;
+use cl_rests::rests;
 use cl_state::{Ask, RankState, is_ecall};
 use mp_alike::WholeHub;
 use mp_types::Request;
@@ -65,33 +68,53 @@ fn finds_claim(state: &ClusterState, rank: u8, ask: &Ask) -> bool
     }
 }
 
-/// Whether the rank's first hart waits, and in vain, if its turn is made anew where nothing is there, or it finds what it
-/// claims.
-fn rests_if(state: &ClusterState, rank: u8, own: &RankState, waits: bool, ask: &Ask) -> bool
+/// Whether nothing is asked of the hub, or what isn't there still.
+fn is_there(state: &ClusterState, rank: u8, ask: &Ask) -> bool
+    ensures { IsTrue result → (image : ImageParts) (cluster : Cluster) → ClusterStandsFor image state.now cluster
+        → IsThere cluster rank ask.now }
+{
+    match ask {
+        Ask::Local => true,
+        Ask::Hub(request) => !state.hub.asks_in_vain(rank, request),
+        _ => false,
+    }
+}
+
+/// Whether the rank's first hart waits, and in vain.
+fn waits_in_vain(state: &ClusterState, rank: u8, own: &RankState, ask: &Ask) -> bool
     requires { 0 < vec_len own.now.harts }
     ensures { IsTrue result → (image : ImageParts) (cluster : Cluster) → ClusterStandsFor image state.now cluster
-        → waits ≡ true → (IsWaiting (mode_of (rank_of own.now) 0) × IsInVain cluster rank ask.now) ⊎ FindsClaim cluster rank ask.now }
+        → IsWaiting (mode_of (rank_of own.now) 0) × IsInVain cluster rank ask.now }
 {
-    if !waits || finds_claim(state, rank, ask) {
+    is_waiting(own) && is_in_vain(state, rank, ask)
+}
+
+/// Whether the rank's first hart waits, and in vain, if its turn is made anew where nothing is there, or it finds what it
+/// claims, or rests and all else that it waits for is there.
+fn rests_if(standing: &Standing, rank: u8, own: &RankState, waits: bool, ask: &Ask) -> bool
+    requires { 0 < vec_len own.now.harts }
+    ensures { IsTrue result → (image : ImageParts) (here : Node) → StandsAt image standing.now here → waits ≡ true
+        → (IsWaiting (mode_of (rank_of own.now) 0) × IsInVain here.cluster rank ask.now)
+        ⊎ (FindsClaim here.cluster rank ask.now
+        ⊎ ((rests_of here.cluster rank 0 ≡ true) × IsThere here.cluster rank ask.now)) }
+{
+    let state = &standing.cluster;
+    if !waits || finds_claim(state, rank, ask) || waits_in_vain(state, rank, own, ask) {
         return true;
     }
-    if !is_waiting(own) {
-        return false;
-    }
-    is_in_vain(state, rank, ask)
+    is_there(state, rank, ask) && rests(standing, rank)
 }
 
 /// Whether the rank may be let go where all are. The only error is want of memory, for the posts of a WAITALL and for what
 /// is sent.
 fn is_fit_rank(
-    state: &ClusterState,
+    standing: &Standing,
     patterns: &Patterns,
     rank: u8,
     own: &RankState,
 ) -> Result<bool, AllocError>
-    ensures { IfOk result (λ fit. IsTrue fit → (image : ImageParts) (cluster : Cluster)
-        → ClusterStandsFor image state.now cluster
-        → IsFitRank (search_of patterns.now.may_wait patterns.now.kept.items) cluster rank (rank_of own.now)) }
+    ensures { IfOk result (λ fit. IsTrue fit → (image : ImageParts) (here : Node) → StandsAt image standing.now here
+        → IsFitRank (search_of patterns.now.may_wait patterns.now.kept.items) here.cluster rank (rank_of own.now)) }
 {
     if own.harts.len() == 0 {
         return Ok(false);
@@ -102,12 +125,12 @@ fn is_fit_rank(
     if !patterns.allow(rank, waits, &ask) || !stands_at_call(own) {
         return Ok(false);
     }
-    Ok(rests_if(state, rank, own, waits, &ask))
+    Ok(rests_if(standing, rank, own, waits, &ask))
 }
 
 /// Whether all ranks may be let go here. What each rank asks for has to be among the patterns, and so has each receive from
-/// any source that still waits. A rank whose call repeats until something is there must already wait in vain, and there must
-/// be too few messages for a send to be refused.
+/// any source that still waits. A rank whose call repeats until something is there must already wait in vain, or rest, and
+/// there must be too few messages for a send to be refused.
 ///
 /// Refusals: Memory.
 pub fn is_fit(standing: &Standing, patterns: &Patterns) -> Result<bool, MoveFault>
@@ -124,7 +147,7 @@ pub fn is_fit(standing: &Standing, patterns: &Patterns) -> Result<bool, MoveFaul
     }
     for rank in 0..count {
         let own = &state.ranks[rank];
-        if !is_fit_rank(state, patterns, rank as u8, own)? {
+        if !is_fit_rank(standing, patterns, rank as u8, own)? {
             return Ok(false);
         }
     }

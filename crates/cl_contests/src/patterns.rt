@@ -249,7 +249,7 @@ fn is_on_side(links: &[Link], asked: &AskedBy) -> bool
 #[derive(Drop)]
 pub struct Patterns {
     pub kept: Vec<AskedBy>,
-    /// Whether standard sends may wait for their receives, so that a rank that rests behind one doesn't go first.
+    /// Whether standard sends may wait for their receives, so that a rank that rests doesn't go first.
     pub may_wait: bool,
 }
 
@@ -279,7 +279,7 @@ impl Patterns {
         self.kept.is_empty()
     }
 
-    /// Whether the rank may not go first: standard sends may wait for their receives, and it rests behind one.
+    /// Whether the rank may not go first: standard sends may wait for their receives, and it rests.
     pub(crate) fn hold_back(&self, standing: &Standing, rank: u8) -> bool
         ensures { result ≡ false → MayGoFirst self.now.may_wait standing.now rank }
     {

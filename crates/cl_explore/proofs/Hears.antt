@@ -6,21 +6,24 @@ use Rattle.cl_turns.specs.declared.Turn.{Turn}
 use Rattle.cl_machine.specs.Cluster.{Cluster}
 use Rattle.cl_order_laws.specs.Closed.{Node}
 use Rattle.cl_rests.specs.Needing.{IsNeed}
-use Rattle.cl_rests.specs.Telling.{IsNeedVerdict}
+use Rattle.cl_rests.specs.Telling.{IsNeedVerdict, TellsNeed}
 use Rattle.cl_moves.specs.Standing.{IsStart, by_order, first_node}
 use Rattle.cl_moves.specs.declared.standing.Standing.{Standing}
 use Rattle.cl_explore.specs.Diving.{Dives}
 use Rattle.cl_explore.specs.Ends.{BeginsAt}
 use Rattle.cl_explore.specs.How.{How, waits_in}
+use Rattle.cl_explore.specs.Kept.{IsLiveOf}
 use Rattle.cl_explore.specs.Listening.{CameByOrder, IsEndNode, IsImageFor, IsNeedNode, IsSearchOf}
 use Rattle.cl_explore.specs.Orders.{IsLedBy}
 use Rattle.cl_explore.specs.Searching.{IsVisited, KeepsOf}
+use Rattle.cl_explore.specs.declared.kept.KeptNode.{KeptNode}
 use Rattle.cl_explore.specs.declared.moving.Visit.{Visit}
 use Rattle.cl_explore.specs.declared.search.Search.{Search}
 use Rattle.cl_explore.proofs.Finds.{if_some_on}
 use Rattle.cl_explore.proofs.Keeping.{no_way, node_found}
 use Rattle.cl_explore.proofs.Lists.{at_inside}
 use Rattle.cl_explore.proofs.OneEach.{one_of_image}
+use Rattle.cl_explore.proofs.Tries.{live_at}
 
 -- ---- where a search begins
 
@@ -87,3 +90,24 @@ module _ (how : How) (image : ImageParts) (order : List ℕ) (old new : Search) 
   -- and a schedule was followed to an end
   pub dived : (end : ℕ) → Dives how order old number new (Some end) → IsEndNode image order new.nodes.items end
   dived end dives = let far = dives.1 image of.0 node.0 of.1 node.1 in (far.more, (far.found).are, far.holds)
+
+-- ---- a node that wasn't visited
+
+-- what is told of a standing that was made of it holds of the node
+pub told_of : {A : Type 0} (items : A → List ℕ) (how : How) (image : ImageParts) (order : List ℕ) (search : Search) (number : ℕ)
+    → IsSearchOf how image order search → number < length search.nodes.items → (k : KeptNode)
+    → slice_get search.nodes.items number ≡ Some k → (live : Standing) → IsLiveOf k live → IsImageFor how image
+    → (need : Option A) → (is_some need ≡ true → waits_in how ≡ true)
+    → (waits_in how ≡ true → TellsNeed live (option_map items need))
+    → IfSome need (λ a. IsNeedNode image order search.nodes.items number (items a))
+told_of items how image order search number of inside k at live is for need may tells =
+    let there = node how image order search search number of inside in
+    let found = node_found image order search.nodes.items of.0 (of.1).are number there.0 there.1 in
+    let here = live_at order search.nodes.items number k at live is image of.0 there.0 (of.1).are there.1 in
+    if_some_on need (λ a is. (of.0, (of.1).are, (there.0, there.1, is)))
+    (if_need items (there.0).cluster need
+    (λ some.
+    let waits = may some in
+    let known = for waits in
+    tells waits image there.0 known.0 (found.0, (found.1).run) here.stands
+    (one_of_image image order there.0 found known.1)))

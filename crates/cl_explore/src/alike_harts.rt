@@ -67,7 +67,8 @@ fn is_alike_progress(names: &Names, a: Progress, b: Progress) -> bool
 {
     match (a, b) {
         (Progress::Finished, Progress::Finished) => true,
-        (Progress::OnPost(post), Progress::OnPost(other)) => names.is_named(post, other),
+        (Progress::Sent(post), Progress::Sent(other))
+        | (Progress::OnPost(post), Progress::OnPost(other)) => names.is_named(post, other),
         (Progress::InPhase, Progress::InPhase) => true,
         _ => false,
     }

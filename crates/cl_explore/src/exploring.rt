@@ -26,6 +26,7 @@ use crate::listening::{Deaf, Listener};
 use crate::moving::{Visit, settle};
 use crate::orders::{OrderFault, follow, turns_in};
 use crate::search::Search;
+use crate::seeking::seek_needs;
 use crate::stepping::steps_to;
 use cl_contests::{Patterns, add_waits, is_first_hart, may_start};
 use cl_lines::{Progress, put_progress};
@@ -94,7 +95,7 @@ struct Told {
 
 /// A standing is the first node of a search, once each rank took its turns that are taken at once. Answers the first rank
 /// that would take more by itself, if there is one.
-fn begin(
+pub(crate) fn begin(
     course: &Manner<'_>,
     search: &mut Search,
     standing: &mut Standing,
@@ -524,6 +525,50 @@ fn is_wanted(found: &Option<Exploration>, may_wait: bool) -> bool
     }
 }
 
+/// Whether a search with sends that may wait was halted although all patterns were known: where ranks need buffers, or where not
+/// all may be let go though nobody goes first.
+fn is_halted(found: &Option<Exploration>, missing: &Patterns, may_wait: bool) -> bool {
+    may_wait && found.is_none() && missing.is_empty()
+}
+
+/// If a search with sends that may wait was halted, the listener is told on each way of the first ranks that need buffers, by
+/// these patterns of all ranks. Nothing else depends on it.
+///
+/// Refusals: NoTurn where the machine has no such turn there, Clock, Memory.
+fn tell_first_needs<L: Listener>(
+    course: &Course<'_>,
+    image: &Image,
+    turns: &[Turn],
+    patterns: &Patterns,
+    halted: bool,
+    states: usize,
+    listener: &mut L,
+) -> Result<(), OrderFault>
+    requires order { 0 < length course.now.order.now }
+    requires image { IsImageFor (by_contest (search_of patterns.now.may_wait patterns.now.kept.items)) image.now }
+    requires holds { L.holds listener.old image.now course.now.order.now }
+    ensures fault { IfErr result (OrderFaultHolds image.now course.now.order.now turns.now) }
+    ensures holds { L.holds listener.new image.now course.now.order.now }
+{
+    if !halted {
+        return Ok(());
+    }
+    let mut standing = follow(course, image, turns)?;
+    let manner = Manner {
+        alloc: course.alloc,
+        image,
+        order: course.order,
+        most: course.most,
+        progress: course.progress,
+        way: Way::First,
+        patterns,
+    };
+    match seek_needs(&manner, &mut standing, states, listener) {
+        Err(Halt::Fault(fault)) => Err(fault.into()),
+        Ok(()) | Err(Halt::Outside) | Err(Halt::Needed) => Ok(()),
+    }
+}
+
 /// The same from where turns lead, by the patterns that all ranks turn out to have: while one asks beside those that are
 /// known, the search begins again with these. First standard sends may wait for their receives, unless the course says that they
 /// buffer: if such a search comes to its end, no ranks need buffers. Otherwise it begins again with sends that buffer. None where
@@ -585,6 +630,9 @@ fn search_by_patterns<L: Listener, E: Write>(
             return Ok(found);
         }
         *pass = pass.saturating_add(1);
+        let halted = is_halted(&found, &missing, patterns.may_wait);
+        let most = states_in(states, true);
+        tell_first_needs(course, image, turns, &patterns, halted, most, listener)?;
         if missing.is_empty() {
             if !patterns.may_wait {
                 return Ok(None);
@@ -606,8 +654,8 @@ fn search_by_patterns<L: Listener, E: Write>(
 /// Unless the course says that standard sends buffer, a first search lets them wait for their receives. If it comes to its end
 /// it is what is answered, and no run comes to a cluster in which ranks need buffers.
 ///
-/// The listener is told of each end as soon as it is found, and of the first node at which ranks need buffers, also of those that
-/// are found before the search begins again, whose nodes aren't in what is answered.
+/// The listener is told of each end as soon as it is found, and on each way of the first node at which ranks need buffers, also of
+/// those that are found before the search begins again, whose nodes aren't in what is answered.
 ///
 /// Refusals: Clock, Memory.
 pub fn explore<L: Listener, E: Write>(

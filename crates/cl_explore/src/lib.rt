@@ -22,6 +22,7 @@ mod moving;
 mod orders;
 mod runs;
 mod search;
+mod seeking;
 mod sorting;
 mod stepping;
 

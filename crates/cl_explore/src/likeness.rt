@@ -16,8 +16,10 @@ use crate::course::Way;
 use crate::kept::KeptNode;
 use cl_moves::Standing;
 use cl_replay::SharedRank;
+use cl_rests::post_of_send;
 use cl_state::{KeptRank, RankState};
-use mp_alike::{Names, WholeHub, alike_names, live_names};
+use mp_alike::{Counterpart, Names, WholeHub, alike_names, live_names};
+use mp_request::OpenRequest;
 use rv_decode::Reg;
 use rv_hart::{Hart, Mode};
 use rv_memory::RankMemory;
@@ -143,19 +145,53 @@ fn are_alike_ranks(names: &Names, ranks: &[RankState], kept: &[SharedRank]) -> b
     true
 }
 
-/// Names by which the one hub is alike the other, as they are compared in this way. The only error is want of memory.
+/// Adds the posts of the standard sends that a handle names in both tables. The only error is want of memory.
+fn add_counterparts(
+    counterparts: &mut Vec<Counterpart>,
+    slots: &[Option<OpenRequest>],
+    others: &[Option<OpenRequest>],
+) -> Result<(), AllocError> {
+    for (slot, other) in slots.iter().zip(others.iter()) {
+        if let (Some(mine), Some(theirs)) = (post_of_send(slot), post_of_send(other)) {
+            counterparts.push(Counterpart { mine, theirs })?;
+        }
+    }
+    Ok(())
+}
+
+/// The posts of standard sends that a handle of a rank names both in a standing and in a node that is kept. Nothing depends on
+/// them but which names are tried. The only error is want of memory.
+fn counterparts(
+    alloc: Global,
+    ranks: &[RankState],
+    kept: &[SharedRank],
+) -> Result<Vec<Counterpart>, AllocError> {
+    let mut counterparts = Vec::new(alloc);
+    for (rank, other) in ranks.iter().zip(kept.iter()) {
+        let theirs = other.rank().requests();
+        add_counterparts(&mut counterparts, rank.requests.front(), theirs.front())?;
+    }
+    Ok(counterparts)
+}
+
+/// Names by which the hub of a standing is alike that of a node, as they are compared in this way. The only error is want of
+/// memory.
 fn hub_names(
     alloc: Global,
     way: Way,
-    mine: &WholeHub,
-    theirs: &WholeHub,
+    standing: &Standing,
+    kept: &KeptNode,
 ) -> Result<Option<Names>, AllocError>
     ensures { IfOk result (λ found. IfSome found (λ names. (may_wait : Bool) (asked : List AskedBy)
-        → AreNamedIn (how_of way may_wait asked) names mine.now theirs.now)) }
+        → AreNamedIn (how_of way may_wait asked) names standing.now.whole kept.now.whole)) }
 {
     match way {
-        Way::Plainly | Way::AtOnce => alike_names(alloc, mine, theirs),
-        Way::First => live_names(alloc, mine, theirs),
+        Way::Plainly | Way::AtOnce => alike_names(alloc, &standing.whole, &kept.whole),
+        Way::First => {
+            let ranks = standing.cluster.ranks.as_slice();
+            let sends = counterparts(alloc, ranks, kept.cluster.ranks())?;
+            live_names(alloc, &standing.whole, &kept.whole, sends.as_slice())
+        }
     }
 }
 
@@ -169,7 +205,7 @@ pub(crate) fn is_alike(
     ensures { IfOk result (λ alike. alike ≡ true → (may_wait : Bool) (asked : List AskedBy) (order : List ℕ)
         → IsAlikeKept (how_of way may_wait asked) order standing.now kept.now) }
 {
-    let Some(names) = hub_names(alloc, way, &standing.whole, &kept.whole)? else {
+    let Some(names) = hub_names(alloc, way, standing, kept)? else {
         return Ok(false);
     };
     let boxes = standing.cluster.boxes.as_slice();

@@ -157,7 +157,10 @@ fn check_fit(course: &Manner<'_>, live: &Standing) -> Result<(), Halt>
 
 /// The ranks that need buffers at a standing, where standard sends may wait for their receives. The only error is want of
 /// memory.
-fn needing_in(course: &Manner<'_>, live: &Standing) -> Result<Option<Vec<u8>>, AllocError>
+pub(crate) fn needing_in(
+    course: &Manner<'_>,
+    live: &Standing,
+) -> Result<Option<Vec<u8>>, AllocError>
     ensures need { IfOk result (λ found. waits_in (how_in course.now) ≡ true
         → TellsNeed live.now (option_map (λ ranks. ranks.items) found)) }
     ensures waits { IfOk result (λ found. is_some found ≡ true → waits_in (how_in course.now) ≡ true) }

@@ -11,7 +11,7 @@ use Rattle.rv_hart.specs.declared.state.Wait.TheVariants.{Post, Again}
 use Rattle.mp_types.specs.declared.codes.Code.{Code}
 use Rattle.mp_types.specs.declared.requests.Request.{Request}
 use Rattle.mp_request.specs.declared.entries.OpenRequest.{OpenRequest}
-use Rattle.mp_request.specs.declared.entries.Progress.TheVariants.{Finished, OnPost, InPhase}
+use Rattle.mp_request.specs.declared.entries.Progress.TheVariants.{Finished, Sent, OnPost, InPhase}
 use Rattle.mp_request.specs.declared.entries.State.{State as RequestState}
 use Rattle.mp_request.specs.declared.entries.State.TheVariants.{Ordinary, Inactive, Active}
 use Rattle.mp_request.specs.declared.entries.Transfer.{Transfer}
@@ -42,22 +42,22 @@ use Rattle.cl_state.specs.Rank.{Rank}
 use Rattle.cl_state.specs.Several.{asked_all, pendings, posts_pending}
 use Rattle.cl_state.specs.Transfers.{asked_transfer, receive_of, send_of}
 use Rattle.mp_alike_laws.specs.Renaming.{Renaming, number_by, request_by}
-use Rattle.cl_names_laws.specs.Named.{ask_by, hart_by, mode_by, open_by, rank_by, state_by, table_by}
+use Rattle.cl_names_laws.specs.Named.{ask_by, hart_by, mode_by, open_with, rank_with, state_with, table_with}
 use Rattle.cl_names_laws.proofs.Tables.{checks_named, receiving_named, request_named, sending_named}
 
 abbrev pub doing_by : Renaming → Doing → Doing
 doing_by names (Poll c post) = Poll c (number_by names post)
 doing_by names d = d
 
-abbrev pub part_by : Renaming → Part → Part
-part_by names part = record part { hart = hart_by names part.hart; requests = table_by names part.requests }
+abbrev pub part_by : Renaming → (ℕ → ℕ) → Part → Part
+part_by names sends part = record part { hart = hart_by names part.hart; requests = table_with names sends part.requests }
 
 abbrev pub pending_by : Renaming → Pending → Pending
 pending_by names (pending.Message post buffer capacity) = pending.Message (number_by names post) buffer capacity
 pending_by names (pending.Word post) = pending.Word (number_by names post)
 pending_by names p = p
 
-module _ (names : Renaming) where
+module _ (names : Renaming) (sends : ℕ → ℕ) where
   -- ---- what a request needs
 
   pending_on_by : (t : Transfer) (post : ℕ) → pending_on (number_by names post) t ≡ pending_by names (pending_on post t)
@@ -79,25 +79,27 @@ module _ (names : Renaming) where
   finished_by (transfer.ReceivePartitions side) = refl
 
   pending_in_by : (s : RequestState) (t : Transfer)
-      → pending_in (state_by names s) t ≡ pending_by names (pending_in s t)
+      → pending_in (state_with names sends s) t ≡ pending_by names (pending_in s t)
   pending_in_by (Ordinary Finished) t = finished_by t
+  pending_in_by (Ordinary (Sent post)) t = finished_by t
   pending_in_by (Ordinary (OnPost post)) t = pending_on_by t post
   pending_in_by (Ordinary InPhase) t = refl
   pending_in_by Inactive t = refl
   pending_in_by (Active Finished) t = finished_by t
+  pending_in_by (Active (Sent post)) t = finished_by t
   pending_in_by (Active (OnPost post)) t = pending_on_by t post
   pending_in_by (Active InPhase) t = refl
 
-  pending_of_by : (o : Option OpenRequest) → pending_of (option_map (open_by names) o) ≡ pending_by names (pending_of o)
+  pending_of_by : (o : Option OpenRequest) → pending_of (option_map (open_with names sends) o) ≡ pending_by names (pending_of o)
   pending_of_by None = refl
   pending_of_by (Some r) = pending_in_by r.state r.transfer
 
   pub pending_named : (table : Table) (handle : ℕ)
-      → pending_of (request_at (table_by names table) handle) ≡ pending_by names (pending_of (request_at table handle))
-  pending_named table handle = ap pending_of (request_named names table handle) ∙ pending_of_by (request_at table handle)
+      → pending_of (request_at (table_with names sends table) handle) ≡ pending_by names (pending_of (request_at table handle))
+  pending_named table handle = ap pending_of (request_named names sends table handle) ∙ pending_of_by (request_at table handle)
 
   pub pendings_named : (table : Table) (handles : List ℕ)
-      → pendings (table_by names table) handles ≡ map (pending_by names) (pendings table handles)
+      → pendings (table_with names sends table) handles ≡ map (pending_by names) (pendings table handles)
   pendings_named table [] = refl
   pendings_named table (h ∷ handles) = λ k. pending_named table h k ∷ pendings_named table handles k
 
@@ -110,25 +112,25 @@ module _ (names : Renaming) where
   posts_by (pending.Word post ∷ ps) = ap (λ xs. number_by names post ∷ xs) (posts_by ps)
 
   pub posts_named : (table : Table) (handles : List ℕ)
-      → posts_pending (pendings (table_by names table) handles)
+      → posts_pending (pendings (table_with names sends table) handles)
       ≡ map (number_by names) (posts_pending (pendings table handles))
   posts_named table handles = ap posts_pending (pendings_named table handles) ∙ posts_by (pendings table handles)
 
   awaited_in_by : (phases : List Phase) (s : RequestState) (t : Transfer)
-      → awaited_at phases (state_by names s) t ≡ awaited_at phases s t
+      → awaited_at phases (state_with names sends s) t ≡ awaited_at phases s t
   awaited_in_by phases (Ordinary p) t = refl
   awaited_in_by phases Inactive t = refl
   awaited_in_by phases (Active p) t = refl
 
   awaited_by_by : (phases : List Phase) (o : Option OpenRequest)
-      → awaited phases (option_map (open_by names) o) ≡ awaited phases o
+      → awaited phases (option_map (open_with names sends) o) ≡ awaited phases o
   awaited_by_by phases None = refl
   awaited_by_by phases (Some r) = awaited_in_by phases r.state r.transfer
 
   pub awaited_named : (phases : List Phase) (table : Table) (handle : ℕ)
-      → awaited phases (request_at (table_by names table) handle) ≡ awaited phases (request_at table handle)
+      → awaited phases (request_at (table_with names sends table) handle) ≡ awaited phases (request_at table handle)
   awaited_named phases table handle =
-      ap (awaited phases) (request_named names table handle) ∙ awaited_by_by phases (request_at table handle)
+      ap (awaited phases) (request_named names sends table handle) ∙ awaited_by_by phases (request_at table handle)
 
   -- ---- what a call asks
 
@@ -148,7 +150,7 @@ module _ (names : Renaming) where
   either_asked false q e = ap (λ x. ask.Hub x) (sym e)
 
   start_asked : (memory : Memory) (o : Option OpenRequest)
-      → asked_start memory (option_map (open_by names) o) ≡ ask_by names (asked_start memory o)
+      → asked_start memory (option_map (open_with names sends) o) ≡ ask_by names (asked_start memory o)
   start_asked memory None = refl
   start_asked memory (Some r) = transfer_asked memory false r.transfer
 
@@ -174,11 +176,11 @@ module _ (names : Renaming) where
   completing_asked m None p = pending_asked p
 
   completing_named : (m : Manner) (phases : List Phase) (table : Table) (handle : ℕ)
-      → asked_completing m (awaited phases (request_at (table_by names table) handle))
-      (pending_of (request_at (table_by names table) handle))
+      → asked_completing m (awaited phases (request_at (table_with names sends table) handle))
+      (pending_of (request_at (table_with names sends table) handle))
       ≡ ask_by names (asked_completing m (awaited phases (request_at table handle)) (pending_of (request_at table handle)))
   completing_named m phases table handle =
-      ap (λ o. asked_completing m o (pending_of (request_at (table_by names table) handle)))
+      ap (λ o. asked_completing m o (pending_of (request_at (table_with names sends table) handle)))
       (awaited_named phases table handle)
       ∙ ap (asked_completing m (awaited phases (request_at table handle))) (pending_named table handle)
       ∙ completing_asked m (awaited phases (request_at table handle)) (pending_of (request_at table handle))
@@ -188,16 +190,16 @@ module _ (names : Renaming) where
   all_asked (post ∷ posts) = refl
 
   several_asked : (memory : Memory) (table : Table) (s : Several)
-      → asked_several memory (table_by names table) s ≡ ask_by names (asked_several memory table s)
+      → asked_several memory (table_with names sends table) s ≡ ask_by names (asked_several memory table s)
   several_asked memory table s =
       ap asked_all (posts_named table (handles_in memory (array_at s.array s.count)))
       ∙ all_asked (posts_pending (pendings table (handles_in memory (array_at s.array s.count))))
 
   ready_asked : (site : Site) (memory : Memory) (table : Table) (handle part : ℕ)
-      → asked_ready site memory part (sending_side (request_at (table_by names table) handle))
+      → asked_ready site memory part (sending_side (request_at (table_with names sends table) handle))
       ≡ ask_by names (asked_ready site memory part (sending_side (request_at table handle)))
   ready_asked site memory table handle part =
-      ap (asked_ready site memory part) (sending_named names table handle)
+      ap (asked_ready site memory part) (sending_named names sends table handle)
       ∙ go (sending_side (request_at table handle))
     where
       go : (o : _) → asked_ready site memory part o ≡ ask_by names (asked_ready site memory part o)
@@ -205,10 +207,10 @@ module _ (names : Renaming) where
       go (Some side) = refl
 
   arrived_asked : (phases : List Phase) (table : Table) (handle part : ℕ)
-      → asked_arrived phases part (receiving_side (request_at (table_by names table) handle))
+      → asked_arrived phases part (receiving_side (request_at (table_with names sends table) handle))
       ≡ ask_by names (asked_arrived phases part (receiving_side (request_at table handle)))
   arrived_asked phases table handle part =
-      ap (asked_arrived phases part) (receiving_named names table handle)
+      ap (asked_arrived phases part) (receiving_named names sends table handle)
       ∙ go (receiving_side (request_at table handle))
     where
       go : (o : _) → asked_arrived phases part o ≡ ask_by names (asked_arrived phases part o)
@@ -216,7 +218,7 @@ module _ (names : Renaming) where
       go (Some side) = awaited_asked Immediate _
 
   call_asked : (site : Site) (memory : Memory) (table : Table) (phases : List Phase) (c : Call)
-      → asked_by site memory (table_by names table) phases c ≡ ask_by names (asked_by site memory table phases c)
+      → asked_by site memory (table_with names sends table) phases c ≡ ask_by names (asked_by site memory table phases c)
   call_asked site memory table phases (call.Send s) = transfer_asked memory true (send_of site false s)
   call_asked site memory table phases (call.Ssend s) = transfer_asked memory true (send_of site true s)
   call_asked site memory table phases (call.Recv r status) = transfer_asked memory true (receive_of site r)
@@ -232,7 +234,7 @@ module _ (names : Renaming) where
   call_asked site memory table phases (call.Imrecv m) = either_asked (m.message == no_message) _ refl
   call_asked site memory table phases (call.Mrecv m status) = either_asked (m.message == no_message) _ refl
   call_asked site memory table phases (call.Start handle) =
-      ap (asked_start memory) (request_named names table handle) ∙ start_asked memory (request_at table handle)
+      ap (asked_start memory) (request_named names sends table handle) ∙ start_asked memory (request_at table handle)
   call_asked site memory table phases (call.Testall s) = several_asked memory table s
   call_asked site memory table phases (call.Waitall s) = several_asked memory table s
   call_asked site memory table phases (call.Pready handle part) = ready_asked site memory table handle part
@@ -244,7 +246,7 @@ module _ (names : Renaming) where
   poll_asked _ post = refl
 
   in_asked : (site : Site) (memory : Memory) (table : Table) (phases : List Phase) (d : Doing)
-      → asked_in site memory (table_by names table) phases (doing_by names d)
+      → asked_in site memory (table_with names sends table) phases (doing_by names d)
       ≡ ask_by names (asked_in site memory table phases d)
   in_asked site memory table phases Step = refl
   in_asked site memory table phases (Refused code) = refl
@@ -258,27 +260,27 @@ module _ (names : Renaming) where
   go_by None c = refl
   go_by (Some code) c = refl
 
-  checked_by : (site : Site) (part : Part) → checked site (part_by names part) ≡ doing_by names (checked site part)
+  checked_by : (site : Site) (part : Part) → checked site (part_by names sends part) ≡ doing_by names (checked site part)
   checked_by site part =
       ap (λ cs. go_or_refuse (first_fault cs) (call_named part.hart))
-      (checks_named names site part.memory part.requests part.phases (length part.out) (needs_of (call_named part.hart)))
+      (checks_named names sends site part.memory part.requests part.phases (length part.out) (needs_of (call_named part.hart)))
       ∙ go_by _ (call_named part.hart)
 
   running_by : (b : Bool) (site : Site) (part : Part)
-      → (if b then checked site (part_by names part) else Step)
+      → (if b then checked site (part_by names sends part) else Step)
       ≡ doing_by names (if b then checked site part else Step)
   running_by true site part = checked_by site part
   running_by false site part = refl
 
   mode_doing : (mode : Mode) (site : Site) (part : Part)
-      → doing_in (mode_by names mode) site (part_by names part) ≡ doing_by names (doing_in mode site part)
+      → doing_in (mode_by names mode) site (part_by names sends part) ≡ doing_by names (doing_in mode site part)
   mode_doing Running site part = running_by (is_ecall (word_at part.memory part.hart.pc)) site part
   mode_doing (Waiting (Post post)) site part = refl
   mode_doing (Waiting Again) site part = checked_by site part
   mode_doing (Ended code) site part = refl
   mode_doing (Trapped cause pc) site part = refl
 
-  pub doing_named : (site : Site) (part : Part) → doing site (part_by names part) ≡ doing_by names (doing site part)
+  pub doing_named : (site : Site) (part : Part) → doing site (part_by names sends part) ≡ doing_by names (doing site part)
   unfolding doing
   doing_named site part = mode_doing part.hart.mode site part
 
@@ -289,18 +291,18 @@ module _ (names : Renaming) where
   hart_at (h ∷ harts) zero = refl
   hart_at (h ∷ harts) (suc hart) = hart_at harts hart
 
-  pub part_named : (rank : Rank) (hart : ℕ) → part_of (rank_by names rank) hart ≡ part_by names (part_of rank hart)
+  pub part_named : (rank : Rank) (hart : ℕ) → part_of (rank_with names sends rank) hart ≡ part_by names sends (part_of rank hart)
   part_named rank hart = λ k. record {
     hart = hart_at rank.harts hart k;
     memory = rank.memory;
-    requests = table_by names rank.requests;
+    requests = table_with names sends rank.requests;
     phases = rank.phases;
     out = rank.out;
   }
 
-  pub asks : (rank : Rank) (hart : ℕ) → asked (rank_by names rank) hart ≡ ask_by names (asked rank hart)
+  pub asks : (rank : Rank) (hart : ℕ) → asked (rank_with names sends rank) hart ≡ ask_by names (asked rank hart)
   unfolding asked
   asks rank hart =
-      ap (asked_in rank.site rank.memory (table_by names rank.requests) rank.phases)
+      ap (asked_in rank.site rank.memory (table_with names sends rank.requests) rank.phases)
       (ap (doing rank.site) (part_named rank hart) ∙ doing_named rank.site (part_of rank hart))
       ∙ in_asked rank.site rank.memory rank.requests rank.phases (doing rank.site (part_of rank hart))

@@ -43,11 +43,11 @@ use Rattle.cl_state.specs.Several.{has_posts, pendings, posts_pending}
 use Rattle.cl_state.specs.Table.{begins, begun_outcome, completes, completing, concludes, gathers, holds_by, row_arrived, row_awaited, row_completing, row_in, row_of, row_of_part, row_ready, starts, takes}
 use Rattle.cl_state.specs.Transfers.{claimed_of, receive_of, send_of}
 use Rattle.mp_alike_laws.specs.Renaming.{Renaming, number_by}
-use Rattle.cl_names_laws.specs.Named.{open_by, progress_by, table_by}
+use Rattle.cl_names_laws.specs.Named.{open_with, progress_with, table_with}
 use Rattle.cl_names_laws.proofs.Tables.{receiving_named, request_named, sending_named}
 use Rattle.cl_names_laws.proofs.Asks.{awaited_named, doing_by, pending_by, pending_named, posts_named}
 
-module _ (names : Renaming) where
+module _ (names : Renaming) (sends : ℕ → ℕ) where
   -- ---- the same row
 
   completes_by : (m : Manner) (c : Completing) (p : Pending) → completes m c (pending_by names p) ≡ completes m c p
@@ -57,22 +57,22 @@ module _ (names : Renaming) where
   completes_by m c (pending.Word post) = refl
 
   completing_by : (m : Manner) (c : Completing) (a : Option Awaited) (o : Option OpenRequest)
-      → pending_of (option_map (open_by names) o) ≡ pending_by names (pending_of o)
-      → row_completing m c a (option_map (open_by names) o) ≡ row_completing m c a o
+      → pending_of (option_map (open_with names sends) o) ≡ pending_by names (pending_of o)
+      → row_completing m c a (option_map (open_with names sends) o) ≡ row_completing m c a o
   completing_by m c (Some a) (Some r) e = refl
   completing_by m c (Some a) None e = refl
   completing_by m c None o e = ap (completes m c) e ∙ completes_by m c (pending_of o)
 
   completing_row : (m : Manner) (c : Completing) (phases : List Phase) (table : Table)
-      → row_completing m c (awaited phases (request_at (table_by names table) c.handle)) (request_at (table_by names table) c.handle)
+      → row_completing m c (awaited phases (request_at (table_with names sends table) c.handle)) (request_at (table_with names sends table) c.handle)
       ≡ row_completing m c (awaited phases (request_at table c.handle)) (request_at table c.handle)
   completing_row m c phases table =
-      ap (λ a. row_completing m c a (request_at (table_by names table) c.handle)) (awaited_named names phases table c.handle)
-      ∙ ap (row_completing m c (awaited phases (request_at table c.handle))) (request_named names table c.handle)
+      ap (λ a. row_completing m c a (request_at (table_with names sends table) c.handle)) (awaited_named names sends phases table c.handle)
+      ∙ ap (row_completing m c (awaited phases (request_at table c.handle))) (request_named names sends table c.handle)
       ∙ completing_by m c (awaited phases (request_at table c.handle)) (request_at table c.handle)
-      (ap pending_of (sym (request_named names table c.handle)) ∙ pending_named names table c.handle)
+      (ap pending_of (sym (request_named names sends table c.handle)) ∙ pending_named names sends table c.handle)
 
-  starts_by : (handle : ℕ) (o : Option OpenRequest) → starts handle (option_map (open_by names) o) ≡ starts handle o
+  starts_by : (handle : ℕ) (o : Option OpenRequest) → starts handle (option_map (open_with names sends) o) ≡ starts handle o
   starts_by handle None = refl
   starts_by handle (Some r) = refl
 
@@ -81,33 +81,33 @@ module _ (names : Renaming) where
   has_by (post ∷ posts) = refl
 
   gathers_row : (m : Manner) (s : Several) (table : Table) (handles : List ℕ)
-      → gathers m s (posts_pending (pendings (table_by names table) handles))
+      → gathers m s (posts_pending (pendings (table_with names sends table) handles))
       ≡ gathers m s (posts_pending (pendings table handles))
   gathers_row m s table handles =
-      ap (gathers m s) (posts_named names table handles) ∙ gathered (posts_pending (pendings table handles))
+      ap (gathers m s) (posts_named names sends table handles) ∙ gathered (posts_pending (pendings table handles))
     where
       gathered : (posts : List ℕ) → gathers m s (map (number_by names) posts) ≡ gathers m s posts
       gathered [] = refl
       gathered (post ∷ posts) = refl
 
   call_row : (site : Site) (hart : ℕ) (memory : Memory) (table : Table) (phases : List Phase) (c : Call)
-      → row_of site hart memory (table_by names table) phases c ≡ row_of site hart memory table phases c
+      → row_of site hart memory (table_with names sends table) phases c ≡ row_of site hart memory table phases c
   call_row site hart memory table phases (call.Test c) = completing_row Immediate c phases table
   call_row site hart memory table phases (call.Wait c) = completing_row Blocking c phases table
   call_row site hart memory table phases (call.Start handle) =
-      ap (starts handle) (request_named names table handle) ∙ starts_by handle (request_at table handle)
+      ap (starts handle) (request_named names sends table handle) ∙ starts_by handle (request_at table handle)
   call_row site hart memory table phases (call.Testall s) =
       gathers_row Immediate s table (handles_in memory (array_at s.array s.count))
   call_row site hart memory table phases (call.Waitall s) =
       gathers_row Blocking s table (handles_in memory (array_at s.array s.count))
   call_row site hart memory table phases (call.Pready handle part) =
-      ap (row_ready part) (sending_named names table handle)
+      ap (row_ready part) (sending_named names sends table handle)
   call_row site hart memory table phases (call.Parrived handle part) =
-      ap (row_arrived phases part) (receiving_named names table handle)
+      ap (row_arrived phases part) (receiving_named names sends table handle)
   call_row site hart memory table phases _ = refl
 
   pub row_named : (site : Site) (hart : ℕ) (memory : Memory) (table : Table) (phases : List Phase) (d : Doing)
-      → row_in site hart memory (table_by names table) phases (doing_by names d) ≡ row_in site hart memory table phases d
+      → row_in site hart memory (table_with names sends table) phases (doing_by names d) ≡ row_in site hart memory table phases d
   row_named site hart memory table phases Step = refl
   row_named site hart memory table phases (Refused code) = refl
   row_named site hart memory table phases (Go c) = call_row site hart memory table phases c
@@ -118,17 +118,18 @@ module _ (names : Renaming) where
 
   abbrev pub IsFixed : Outcome → Type 0
   IsFixed (outcome.Waits post) = number_by names post ≡ post
-  IsFixed (outcome.Opens r) = open_by names r ≡ r
-  IsFixed (outcome.Starts handle p) = progress_by names p ≡ p
+  IsFixed (outcome.Opens r) = open_with names sends r ≡ r
+  IsFixed (outcome.Starts handle p) = progress_with names sends p ≡ p
   IsFixed _ = Unit {0}
 
   abbrev pub IsFixedRow : Row → Type 0
   IsFixedRow (AtOnce o) = IsFixed o
   IsFixedRow _ = Unit {0}
 
-  pub begun_fixed : (why : Purpose) (t : Transfer) (p : Progress) → progress_by names p ≡ p
+  pub begun_fixed : (why : Purpose) (t : Transfer) (p : Progress) → progress_with names sends p ≡ p
       → IsFixed (begun_outcome why t p)
   begun_fixed purpose.Send t progress.Finished e = tt
+  begun_fixed purpose.Send t (progress.Sent post) e = tt
   begun_fixed purpose.Send t (progress.OnPost post) e = cc
   begun_fixed purpose.Send t progress.InPhase e = tt
   begun_fixed purpose.Open t p e = ap (λ x. (let r : OpenRequest = record { transfer = t; state = state.Ordinary x } in r)) e

@@ -23,83 +23,83 @@ use Rattle.mp_types.specs.declared.codes.Code.TheVariants.{Active as CodeActive}
 use Rattle.mp_request.specs.declared.entries.Transfer.{Transfer}
 use Rattle.cl_calls.specs.Handles.{handles_in}
 use Rattle.mp_alike_laws.specs.Renaming.{Renaming}
-use Rattle.cl_names_laws.specs.Named.{open_by, progress_by, state_by, table_by}
+use Rattle.cl_names_laws.specs.Named.{open_with, progress_with, state_with, table_with}
 
-module _ (names : Renaming) where
+module _ (names : Renaming) (sends : ℕ → ℕ) where
   at_by : (table : Table) (place : ℕ)
-      → get_or (table_by names table) place None ≡ option_map (open_by names) (get_or table place None)
+      → get_or (table_with names sends table) place None ≡ option_map (open_with names sends) (get_or table place None)
   at_by [] zero = refl
   at_by [] (suc place) = refl
   at_by (x ∷ table) zero = refl
   at_by (x ∷ table) (suc place) = at_by table place
 
   pub request_named : (table : Table) (handle : ℕ)
-      → request_at (table_by names table) handle ≡ option_map (open_by names) (request_at table handle)
+      → request_at (table_with names sends table) handle ≡ option_map (open_with names sends) (request_at table handle)
   request_named table zero = refl
   request_named table (suc place) = at_by table place
 
   -- ---- tests
 
-  has_by : (test : State → Bool) → ((s : State) → test (state_by names s) ≡ test s) → (o : Option OpenRequest)
-      → option_map_or (λ (r : OpenRequest). test r.state) (option_map (open_by names) o) false
+  has_by : (test : State → Bool) → ((s : State) → test (state_with names sends s) ≡ test s) → (o : Option OpenRequest)
+      → option_map_or (λ (r : OpenRequest). test r.state) (option_map (open_with names sends) o) false
       ≡ option_map_or (λ (r : OpenRequest). test r.state) o false
   has_by test same None = refl
   has_by test same (Some r) = same r.state
 
-  pub has_named : (test : State → Bool) → ((s : State) → test (state_by names s) ≡ test s) → (table : Table) (handle : ℕ)
-      → has test (table_by names table) handle ≡ has test table handle
+  pub has_named : (test : State → Bool) → ((s : State) → test (state_with names sends s) ≡ test s) → (table : Table) (handle : ℕ)
+      → has test (table_with names sends table) handle ≡ has test table handle
   has_named test same table handle =
       ap (λ o. option_map_or (λ (r : OpenRequest). test r.state) o false) (request_named table handle)
       ∙ has_by test same (request_at table handle)
 
-  active_same : (s : State) → is_active (state_by names s) ≡ is_active s
+  active_same : (s : State) → is_active (state_with names sends s) ≡ is_active s
   active_same (Ordinary p) = refl
   active_same Inactive = refl
   active_same (Active p) = refl
 
-  persistent_same : (s : State) → is_persistent (state_by names s) ≡ is_persistent s
+  persistent_same : (s : State) → is_persistent (state_with names sends s) ≡ is_persistent s
   persistent_same (Ordinary p) = refl
   persistent_same Inactive = refl
   persistent_same (Active p) = refl
 
-  some_by : (o : Option OpenRequest) → is_some (option_map (open_by names) o) ≡ is_some o
+  some_by : (o : Option OpenRequest) → is_some (option_map (open_with names sends) o) ≡ is_some o
   some_by None = refl
   some_by (Some r) = refl
 
   some_named : (table : Table) (handle : ℕ)
-      → is_some (request_at (table_by names table) handle) ≡ is_some (request_at table handle)
+      → is_some (request_at (table_with names sends table) handle) ≡ is_some (request_at table handle)
   some_named table handle = ap is_some (request_named table handle) ∙ some_by (request_at table handle)
 
-  sending_by : (o : Option OpenRequest) → sending_side (option_map (open_by names) o) ≡ sending_side o
+  sending_by : (o : Option OpenRequest) → sending_side (option_map (open_with names sends) o) ≡ sending_side o
   sending_by None = refl
   sending_by (Some r) = refl
 
   pub sending_named : (table : Table) (handle : ℕ)
-      → sending_side (request_at (table_by names table) handle) ≡ sending_side (request_at table handle)
+      → sending_side (request_at (table_with names sends table) handle) ≡ sending_side (request_at table handle)
   sending_named table handle = ap sending_side (request_named table handle) ∙ sending_by (request_at table handle)
 
-  receiving_by : (o : Option OpenRequest) → receiving_side (option_map (open_by names) o) ≡ receiving_side o
+  receiving_by : (o : Option OpenRequest) → receiving_side (option_map (open_with names sends) o) ≡ receiving_side o
   receiving_by None = refl
   receiving_by (Some r) = refl
 
   pub receiving_named : (table : Table) (handle : ℕ)
-      → receiving_side (request_at (table_by names table) handle) ≡ receiving_side (request_at table handle)
+      → receiving_side (request_at (table_with names sends table) handle) ≡ receiving_side (request_at table handle)
   receiving_named table handle = ap receiving_side (request_named table handle) ∙ receiving_by (request_at table handle)
 
-  first_free : (table : Table) → position_or_len is_none (table_by names table) ≡ position_or_len is_none table
+  first_free : (table : Table) → position_or_len is_none (table_with names sends table) ≡ position_or_len is_none table
   first_free [] = refl
   first_free (None ∷ table) = refl
   first_free (Some r ∷ table) = ap (λ n. 1 + n) (first_free table)
 
-  pub free_named : (table : Table) → lowest_free (table_by names table) ≡ lowest_free table
+  pub free_named : (table : Table) → lowest_free (table_with names sends table) ≡ lowest_free table
   free_named table =
-      ap (λ n. option_map suc (cond (nat_lt (position_or_len is_none (table_by names table)) n)
-      (Some (position_or_len is_none (table_by names table))) None)) (length-map table (option_map (open_by names)))
+      ap (λ n. option_map suc (cond (nat_lt (position_or_len is_none (table_with names sends table)) n)
+      (Some (position_or_len is_none (table_with names sends table))) None)) (length-map table (option_map (open_with names sends)))
       ∙ ap (λ n. option_map suc (cond (nat_lt n (length table)) (Some n) None)) (first_free table)
 
   -- ---- the checks
 
-  named_named : (table : Table) (n : Named) → is_named (table_by names table) n ≡ is_named table n
+  named_named : (table : Table) (n : Named) → is_named (table_with names sends table) n ≡ is_named table n
   named_named table Nothing = refl
   named_named table (NullOrOpen handle) = ap (λ x. (handle == 0) || x) (some_named table handle)
   named_named table (Persistent handle) = has_named is_persistent persistent_same table handle
@@ -107,7 +107,7 @@ module _ (names : Renaming) where
   named_named table (SendPart handle part) = ap (λ x. is_some x) (sending_named table handle)
   named_named table (ReceivePart handle part) = ap (λ x. is_some x) (receiving_named table handle)
 
-  idle_named : (table : Table) (n : Named) → is_idle (table_by names table) n ≡ is_idle table n
+  idle_named : (table : Table) (n : Named) → is_idle (table_with names sends table) n ≡ is_idle table n
   idle_named table Nothing = refl
   idle_named table (NullOrOpen handle) = refl
   idle_named table (Persistent handle) = ap not (has_named is_active active_same table handle)
@@ -116,7 +116,7 @@ module _ (names : Renaming) where
   idle_named table (ReceivePart handle part) = refl
 
   part_named : (table : Table) (phases : List Phase) (n : Named)
-      → is_part (table_by names table) phases n ≡ is_part table phases n
+      → is_part (table_with names sends table) phases n ≡ is_part table phases n
   part_named table phases Nothing = refl
   part_named table phases (NullOrOpen handle) = refl
   part_named table phases (Persistent handle) = refl
@@ -127,7 +127,7 @@ module _ (names : Renaming) where
       ap (λ o. holds_of_receiver (λ p. nat_lt part p.parts) phases o) (receiving_named table handle)
 
   going_named : (table : Table) (phases : List Phase) (n : Named)
-      → is_going (table_by names table) phases n ≡ is_going table phases n
+      → is_going (table_with names sends table) phases n ≡ is_going table phases n
   going_named table phases Nothing = refl
   going_named table phases (NullOrOpen handle) = refl
   going_named table phases (Persistent handle) = refl
@@ -137,7 +137,7 @@ module _ (names : Renaming) where
   going_named table phases (ReceivePart handle part) = refl
 
   unready_named : (table : Table) (phases : List Phase) (n : Named)
-      → is_unready (table_by names table) phases n ≡ is_unready table phases n
+      → is_unready (table_with names sends table) phases n ≡ is_unready table phases n
   unready_named table phases Nothing = refl
   unready_named table phases (NullOrOpen handle) = refl
   unready_named table phases (Persistent handle) = refl
@@ -147,27 +147,27 @@ module _ (names : Renaming) where
   unready_named table phases (ReceivePart handle part) = refl
 
   testable_by : (o : Option OpenRequest)
-      → option_map_or (λ (r : OpenRequest). not (is_partitioned r.transfer)) (option_map (open_by names) o) false
+      → option_map_or (λ (r : OpenRequest). not (is_partitioned r.transfer)) (option_map (open_with names sends) o) false
       ≡ option_map_or (λ (r : OpenRequest). not (is_partitioned r.transfer)) o false
   testable_by None = refl
   testable_by (Some r) = refl
 
-  testable_named : (table : Table) (handle : ℕ) → is_testable (table_by names table) handle ≡ is_testable table handle
+  testable_named : (table : Table) (handle : ℕ) → is_testable (table_with names sends table) handle ≡ is_testable table handle
   testable_named table handle =
       ap (λ x. (handle == 0) || x)
       (ap (λ o. option_map_or (λ (r : OpenRequest). not (is_partitioned r.transfer)) o false) (request_named table handle)
       ∙ testable_by (request_at table handle))
 
   tested_named : (table : Table) (handles : List ℕ)
-      → may_be_tested (table_by names table) handles ≡ may_be_tested table handles
+      → may_be_tested (table_with names sends table) handles ≡ may_be_tested table handles
   tested_named table handles =
       ap (λ (f : ℕ → Bool). list_all f handles
-      && is_distinct (filter (has is_active (table_by names table)) handles)) (λ k h. testable_named table h k)
+      && is_distinct (filter (has is_active (table_with names sends table)) handles)) (λ k h. testable_named table h k)
       ∙ ap (λ (f : ℕ → Bool). list_all (is_testable table) handles && is_distinct (filter f handles))
       (λ k h. has_named is_active active_same table h k)
 
   pub checks_named : (site : Site) (memory : Memory) (table : Table) (phases : List Phase) (written : ℕ) (needs : Needs)
-      → checks site memory (table_by names table) phases written needs ≡ checks site memory table phases written needs
+      → checks site memory (table_with names sends table) phases written needs ≡ checks site memory table phases written needs
   checks_named site memory table phases written needs =
       λ k.
       (needs.known, BadCall) ∷
@@ -191,42 +191,42 @@ module _ (names : Renaming) where
   -- ---- changes
 
   pub with_named : (table : Table) (handle : ℕ) (o : Option OpenRequest)
-      → with_request (table_by names table) handle (option_map (open_by names) o)
-      ≡ table_by names (with_request table handle o)
+      → with_request (table_with names sends table) handle (option_map (open_with names sends) o)
+      ≡ table_with names sends (with_request table handle o)
   with_named table zero o = refl
-  with_named table (suc place) o = sym (map-set (option_map (open_by names)) table place o)
+  with_named table (suc place) o = sym (map-set (option_map (open_with names sends)) table place o)
 
-  started_by : (progress : Progress) → progress_by names progress ≡ progress → (o : Option OpenRequest)
-      → option_map (active_with progress) (option_map (open_by names) o)
-      ≡ option_map (open_by names) (option_map (active_with progress) o)
+  started_by : (progress : Progress) → progress_with names sends progress ≡ progress → (o : Option OpenRequest)
+      → option_map (active_with progress) (option_map (open_with names sends) o)
+      ≡ option_map (open_with names sends) (option_map (active_with progress) o)
   started_by progress same None = refl
   started_by progress same (Some r) =
       ap (λ p. Some (active_with p r)) (sym same)
 
-  pub started_named : (table : Table) (handle : ℕ) (progress : Progress) → progress_by names progress ≡ progress
-      → started (table_by names table) handle progress ≡ table_by names (started table handle progress)
+  pub started_named : (table : Table) (handle : ℕ) (progress : Progress) → progress_with names sends progress ≡ progress
+      → started (table_with names sends table) handle progress ≡ table_with names sends (started table handle progress)
   started_named table handle progress same =
-      ap (λ o. with_request (table_by names table) handle (option_map (active_with progress) o))
+      ap (λ o. with_request (table_with names sends table) handle (option_map (active_with progress) o))
       (request_named table handle)
-      ∙ ap (with_request (table_by names table) handle) (started_by progress same (request_at table handle))
+      ∙ ap (with_request (table_with names sends table) handle) (started_by progress same (request_at table handle))
       ∙ with_named table handle (option_map (active_with progress) (request_at table handle))
 
   completed_in : (transfer : Transfer) (s : State)
       → (let r : OpenRequest = record { transfer = transfer; state = s } in
-      remainder (open_by names r) ≡ option_map (open_by names) (remainder r))
+      remainder (open_with names sends r) ≡ option_map (open_with names sends) (remainder r))
   completed_in transfer (Ordinary p) = refl
   completed_in transfer Inactive = refl
   completed_in transfer (Active p) = refl
 
   completed_by : (o : Option OpenRequest)
-      → option_and_then remainder (option_map (open_by names) o)
-      ≡ option_map (open_by names) (option_and_then remainder o)
+      → option_and_then remainder (option_map (open_with names sends) o)
+      ≡ option_map (open_with names sends) (option_and_then remainder o)
   completed_by None = refl
   completed_by (Some r) = completed_in r.transfer r.state
 
   pub completed_named : (table : Table) (handle : ℕ)
-      → completed (table_by names table) handle ≡ table_by names (completed table handle)
+      → completed (table_with names sends table) handle ≡ table_with names sends (completed table handle)
   completed_named table handle =
-      ap (λ o. with_request (table_by names table) handle (option_and_then remainder o)) (request_named table handle)
-      ∙ ap (with_request (table_by names table) handle) (completed_by (request_at table handle))
+      ap (λ o. with_request (table_with names sends table) handle (option_and_then remainder o)) (request_named table handle)
+      ∙ ap (with_request (table_with names sends table) handle) (completed_by (request_at table handle))
       ∙ with_named table handle (option_and_then remainder (request_at table handle))

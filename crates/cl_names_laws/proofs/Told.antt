@@ -40,6 +40,7 @@ use Rattle.cl_state.specs.declared.pending.Pending.TheVariants as pending
 use Rattle.cl_state.specs.declared.pending.Target.{Target}
 use Rattle.cl_state.specs.declared.row.Outcome.{Outcome}
 use Rattle.cl_state.specs.declared.row.Outcome.TheVariants as outcome
+use Rattle.cl_state.specs.declared.row.Purpose.{Purpose}
 use Rattle.cl_state.specs.declared.row.Row.{Row}
 use Rattle.cl_state.specs.declared.row.Row.TheVariants.{AtOnce, OnReply, OnBox}
 use Rattle.cl_state.specs.declared.row.Visit.{Visit}
@@ -53,7 +54,7 @@ use Rattle.cl_state.specs.Table.{begun_outcome, row_in}
 use Rattle.cl_state.specs.Told.{arrived, arrived_from, completed_all, cut_known, done, ended, found, found_at, found_nothing, freed, freed_one, gathered, gathered_if, made_receiving, made_sending, made_side_at, not_yet, opened, opened_at, part_readied, phase_begun, received, received_from, received_message, replied, returned, seen_one, taken_one, told, told_in, told_row, visited, with_part, with_taken_box}
 use Rattle.cl_state.specs.Transfers.{posted}
 use Rattle.mp_alike_laws.specs.Renaming.{Renaming, number_by}
-use Rattle.cl_names_laws.specs.Named.{IsSameNamed, hart_by, open_by, progress_by, rank_by, table_by}
+use Rattle.cl_names_laws.specs.Named.{IsSameNamed, hart_by, open_with, progress_with, rank_by, rank_with, table_with}
 use Rattle.cl_names_laws.specs.Laws.{NamesLaw}
 use Rattle.cl_names_laws.proofs.Asks.{asks, doing_named, part_by, part_named, pending_by, pendings_named, posts_by}
 use Rattle.cl_names_laws.proofs.Rows.{IsFixed, IsFixedRow, begun_fixed, row_fixed, row_named}
@@ -65,10 +66,15 @@ abbrev part_with : State → Memory → Table → List Phase → List ℕ → Pa
 part_with hart memory requests phases out =
     record { hart = hart; memory = memory; requests = requests; phases = phases; out = out }
 
-module _ (names : Renaming) where
+-- what a turn of the hart does
+abbrev pub row_at : Rank → ℕ → Row
+row_at rank hart =
+    row_in rank.site hart rank.memory rank.requests rank.phases (doing rank.site (part_of rank hart))
+
+module _ (names : Renaming) (sends : ℕ → ℕ) where
   -- the same by other names
   abbrev Named : (Part → Part) → Part → Type 0
-  Named f part = f (part_by names part) ≡ part_by names (f part)
+  Named f part = f (part_by names sends part) ≡ part_by names sends (f part)
 
   returned_by : (c : Code) (v : ℕ) (hart : State) → returned c v (hart_by names hart) ≡ hart_by names (returned c v hart)
   unfolding returned
@@ -76,19 +82,19 @@ module _ (names : Renaming) where
 
   ended_by : (c : Code) (v : ℕ) (part : Part) → Named (ended c v) part
   ended_by c v part =
-      ap (λ h. part_with h part.memory (table_by names part.requests) part.phases part.out) (returned_by c v part.hart)
+      ap (λ h. part_with h part.memory (table_with names sends part.requests) part.phases part.out) (returned_by c v part.hart)
 
   -- a call ends with other requests
   ends_with : (c : Code) (v : ℕ) (hart : State) (memory : Memory) (t u : Table) (phases : List Phase) (out : List ℕ)
-      → t ≡ table_by names u
+      → t ≡ table_with names sends u
       → ended c v (part_with (hart_by names hart) memory t phases out)
-      ≡ part_by names (ended c v (part_with hart memory u phases out))
+      ≡ part_by names sends (ended c v (part_with hart memory u phases out))
   ends_with c v hart memory t u phases out same =
       ap (λ x. ended c v (part_with (hart_by names hart) memory x phases out)) same
       ∙ ended_by c v (part_with hart memory u phases out)
 
-  if_by : (b : Bool) (x y z w : Part) → x ≡ part_by names z → y ≡ part_by names w
-      → (if b then x else y) ≡ part_by names (if b then z else w)
+  if_by : (b : Bool) (x y z w : Part) → x ≡ part_by names sends z → y ≡ part_by names sends w
+      → (if b then x else y) ≡ part_by names sends (if b then z else w)
   if_by true x y z w e f = e
   if_by false x y z w e f = f
 
@@ -104,7 +110,7 @@ module _ (names : Renaming) where
       → Named (received target source tag bytes) part
   unfolding received
   received_by target source tag bytes part =
-      ends_with _ target.value part.hart _ _ _ part.phases part.out (completed_named names part.requests target.handle)
+      ends_with _ target.value part.hart _ _ _ part.phases part.out (completed_named names sends part.requests target.handle)
 
   from_by : (o : Option ℕ) (target : Target) (message : Message) (part : Part)
       → Named (received_from o target message) part
@@ -117,21 +123,21 @@ module _ (names : Renaming) where
   message_by site target message part =
       from_by (position_of message.envelope.source (members site message.envelope.comm)) target message part
 
-  opened_by : (r : OpenRequest) (part : Part) → open_by names r ≡ r → Named (opened r) part
+  opened_by : (r : OpenRequest) (part : Part) → open_with names sends r ≡ r → Named (opened r) part
   opened_by r part same =
-      ap (λ o. opened_at o r (part_by names part)) (free_named names part.requests) ∙ go (lowest_free part.requests)
+      ap (λ o. opened_at o r (part_by names sends part)) (free_named names sends part.requests) ∙ go (lowest_free part.requests)
     where
       go : (o : Option ℕ) → Named (opened_at o r) part
       go None = ended_by code.Full 0 part
       go (Some handle) =
           ends_with code.Ok handle part.hart part.memory _ _ part.phases part.out
-          (ap (λ x. with_request (table_by names part.requests) handle (Some x)) (sym same)
-          ∙ with_named names part.requests handle (Some r))
+          (ap (λ x. with_request (table_with names sends part.requests) handle (Some x)) (sym same)
+          ∙ with_named names sends part.requests handle (Some r))
 
   freed_by : (handle : ℕ) (part : Part) → Named (freed handle) part
   unfolding freed
   freed_by handle part =
-      ends_with code.Ok 0 part.hart part.memory _ _ part.phases part.out (with_named names part.requests handle None)
+      ends_with code.Ok 0 part.hart part.memory _ _ part.phases part.out (with_named names sends part.requests handle None)
 
   -- ---- several requests
 
@@ -202,14 +208,14 @@ module _ (names : Renaming) where
       → are_fit site (map (pending_by names) ps) gots ≡ are_fit site ps gots
   fit_by site ps gots =
       ap (λ n. (length gots == n) && list_all (λ d. fits_one site d.0 d.1) (dealt (map (pending_by names) ps) gots))
-      (ap length (posts_by names ps) ∙ map_length (posts_pending ps))
+      (ap length (posts_by names sends ps) ∙ map_length (posts_pending ps))
       ∙ ap (λ x. (length gots == length (posts_pending ps)) && x) (fit_each site ps gots)
 
   each_by : (table : Table) (handles : List ℕ)
-      → completed_each (table_by names table) handles ≡ table_by names (completed_each table handles)
+      → completed_each (table_with names sends table) handles ≡ table_with names sends (completed_each table handles)
   each_by table [] = refl
   each_by table (h ∷ handles) =
-      ap (λ t. completed_each t handles) (completed_named names table h) ∙ each_by (completed table h) handles
+      ap (λ t. completed_each t handles) (completed_named names sends table h) ∙ each_by (completed table h) handles
 
   all_by : (site : Site) (value statuses : ℕ) (handles : List ℕ) (gots : List (Option Message)) (part : Part)
       → Named (completed_all site value statuses handles gots) part
@@ -217,16 +223,16 @@ module _ (names : Renaming) where
   all_by site value statuses handles gots part =
       ap (λ gs. ended (code_of gs) value
       (part_with (hart_by names part.hart) (with_statuses (with_all_bytes part.memory gs) statuses gs)
-      (completed_each (table_by names part.requests) handles) part.phases part.out))
-      (ap (λ ps. given site ps gots) (pendings_named names part.requests handles)
+      (completed_each (table_with names sends part.requests) handles) part.phases part.out))
+      (ap (λ ps. given site ps gots) (pendings_named names sends part.requests handles)
       ∙ given_by site (pendings part.requests handles) gots)
       ∙ ends_with _ value part.hart _ _ _ part.phases part.out (each_by part.requests handles)
 
   gathered_by : (site : Site) (value statuses : ℕ) (handles : List ℕ) (gots : List (Option Message)) (part : Part)
       → Named (gathered site value statuses handles gots) part
   gathered_by site value statuses handles gots part =
-      ap (λ b. gathered_if b site value statuses handles gots (part_by names part))
-      (ap (λ ps. are_fit site ps gots) (pendings_named names part.requests handles)
+      ap (λ b. gathered_if b site value statuses handles gots (part_by names sends part))
+      (ap (λ ps. are_fit site ps gots) (pendings_named names sends part.requests handles)
       ∙ fit_by site (pendings part.requests handles) gots)
       ∙ go (are_fit site (pendings part.requests handles) gots)
     where
@@ -259,13 +265,13 @@ module _ (names : Renaming) where
   side_by None t link shape part = ended_by code.Full 0 part
   side_by (Some handle) t link shape part =
       ends_with code.Ok handle part.hart part.memory _ _ _ part.out
-      (with_named names part.requests handle (Some (record { transfer = t; state = state.Inactive })))
+      (with_named names sends part.requests handle (Some (record { transfer = t; state = state.Inactive })))
 
   side_free : (t : Transfer) (link : ℕ) (shape : Phase → Phase) (part : Part)
-      → made_side_at (lowest_free (table_by names part.requests)) t link shape (part_by names part)
-      ≡ part_by names (made_side_at (lowest_free part.requests) t link shape part)
+      → made_side_at (lowest_free (table_with names sends part.requests)) t link shape (part_by names sends part)
+      ≡ part_by names sends (made_side_at (lowest_free part.requests) t link shape part)
   side_free t link shape part =
-      ap (λ o. made_side_at o t link shape (part_by names part)) (free_named names part.requests)
+      ap (λ o. made_side_at o t link shape (part_by names sends part)) (free_named names sends part.requests)
       ∙ side_by (lowest_free part.requests) t link shape part
 
   sending_by : (site : Site) (t : Partitioning) (link : ℕ) (part : Part) → Named (made_sending site t link) part
@@ -289,7 +295,7 @@ module _ (names : Renaming) where
   unfolding phase_begun
   begun_by handle link part =
       ends_with code.Ok 0 part.hart part.memory _ _ _ part.out
-      (started_named names part.requests handle progress.InPhase refl)
+      (started_named names sends part.requests handle progress.InPhase refl)
 
   readied_by : (link ready : ℕ) (part : Part) → Named (part_readied link ready) part
   unfolding part_readied
@@ -300,7 +306,7 @@ module _ (names : Renaming) where
   arrived_from_by None side target part = ended_by code.BadRequest 0 part
   arrived_from_by (Some place) side target part =
       ends_with code.Ok target.value part.hart _ _ _ part.phases part.out
-      (completed_named names part.requests target.handle)
+      (completed_named names sends part.requests target.handle)
 
   arrived_by : (site : Site) (side : Partitions) (target : Target) (part : Part) → Named (arrived site side target) part
   unfolding arrived
@@ -329,25 +335,25 @@ module _ (names : Renaming) where
 
   steps_by : (part : Part)
       → (let after = stepped (hart_by names part.hart) part.memory in
-      part_with after.state after.memory (table_by names part.requests) part.phases part.out)
+      part_with after.state after.memory (table_with names sends part.requests) part.phases part.out)
       ≡ (let after = stepped part.hart part.memory in
-      part_with (hart_by names after.state) after.memory (table_by names part.requests) part.phases part.out)
+      part_with (hart_by names after.state) after.memory (table_with names sends part.requests) part.phases part.out)
   steps_by part =
-      ap (λ a. part_with a.state a.memory (table_by names part.requests) part.phases part.out)
+      ap (λ a. part_with a.state a.memory (table_with names sends part.requests) part.phases part.out)
       (stepped_named names part.hart part.memory)
 
-  done_by : (site : Site) (o : Outcome) (part : Part) → IsFixed names o → Named (done site o) part
+  done_by : (site : Site) (o : Outcome) (part : Part) → IsFixed names sends o → Named (done site o) part
   done_by site outcome.Steps part fixed = steps_by part
   done_by site outcome.Stays part fixed = refl
   done_by site (outcome.Exits value) part fixed = refl
   done_by site (outcome.Ends c value) part fixed = ended_by c value part
   done_by site (outcome.Waits post) part fixed =
-      ap (λ n. part_with (in_mode part.hart (Waiting (Post n))) part.memory (table_by names part.requests) part.phases part.out)
+      ap (λ n. part_with (in_mode part.hart (Waiting (Post n))) part.memory (table_with names sends part.requests) part.phases part.out)
       (sym fixed)
   done_by site (outcome.Puts buffer count) part fixed = ends_with code.Ok 0 part.hart part.memory _ _ part.phases _ refl
   done_by site (outcome.Opens r) part fixed = opened_by r part fixed
   done_by site (outcome.Starts handle p) part fixed =
-      ends_with code.Ok 0 part.hart part.memory _ _ part.phases part.out (started_named names part.requests handle p fixed)
+      ends_with code.Ok 0 part.hart part.memory _ _ part.phases part.out (started_named names sends part.requests handle p fixed)
   done_by site (outcome.Frees handle) part fixed = freed_by handle part
   done_by site (outcome.Completes source target) part fixed = received_by target source any [] part
   done_by site (outcome.FindsNothing value status) part fixed = nothing_by value status part
@@ -357,24 +363,34 @@ module _ (names : Renaming) where
   done_by site (outcome.CompletesAll value s) part fixed =
       all_by site value s.statuses (handles_in part.memory (array_at s.array s.count)) [] part
 
-  posted_fixed : (t : Transfer) (post : ℕ) (paired : Bool) → number_by names post ≡ post
-      → progress_by names (posted t post paired) ≡ posted t post paired
-  posted_fixed (transfer.Send true buffer count dest tag comm) post true same = refl
-  posted_fixed (transfer.Send true buffer count dest tag comm) post false same = ap (λ n. progress.OnPost n) same
-  posted_fixed (transfer.Send false buffer count dest tag comm) post true same = refl
-  posted_fixed (transfer.Send false buffer count dest tag comm) post false same = refl
-  posted_fixed transfer.SendToNull post paired same = ap (λ n. progress.OnPost n) same
-  posted_fixed transfer.ReceiveFromNull post paired same = ap (λ n. progress.OnPost n) same
-  posted_fixed (transfer.Receive buffer capacity source tag comm) post paired same = ap (λ n. progress.OnPost n) same
-  posted_fixed (transfer.ReceiveClaimed buffer capacity) post paired same = ap (λ n. progress.OnPost n) same
-  posted_fixed (transfer.SendPartitions side) post paired same = ap (λ n. progress.OnPost n) same
-  posted_fixed (transfer.ReceivePartitions side) post paired same = ap (λ n. progress.OnPost n) same
+  -- the post that is told of has the same number, by the map for what it is the post of
+  abbrev pub IsSamePost : Wanted → Reply → Type 0
+  IsSamePost (wanted.Post why (transfer.Send false buffer count dest tag comm)) (reply.Posted post paired) = sends post ≡ post
+  IsSamePost (wanted.Post why t) (reply.Posted post paired) = number_by names post ≡ post
+  IsSamePost (wanted.MessageOrPost target) (reply.Posted post paired) = number_by names post ≡ post
+  IsSamePost _ _ = Unit {0}
 
-  replied_by : (site : Site) (w : Wanted) (r : Reply) (part : Part) → IsSameNamed names (answer.Reply r)
-      → Named (replied site w r) part
+  abbrev pub IsSameAt : Row → Answer → Type 0
+  IsSameAt (OnReply m w) (answer.Reply r) = IsSamePost w r
+  IsSameAt _ _ = Unit {0}
+
+  posted_fixed : (why : Purpose) (t : Transfer) (post : ℕ) (paired : Bool)
+      → IsSamePost (wanted.Post why t) (reply.Posted post paired)
+      → progress_with names sends (posted t post paired) ≡ posted t post paired
+  posted_fixed why (transfer.Send true buffer count dest tag comm) post true same = refl
+  posted_fixed why (transfer.Send true buffer count dest tag comm) post false same = ap (λ n. progress.OnPost n) same
+  posted_fixed why (transfer.Send false buffer count dest tag comm) post paired same = ap (λ n. progress.Sent n) same
+  posted_fixed why transfer.SendToNull post paired same = ap (λ n. progress.OnPost n) same
+  posted_fixed why transfer.ReceiveFromNull post paired same = ap (λ n. progress.OnPost n) same
+  posted_fixed why (transfer.Receive buffer capacity source tag comm) post paired same = ap (λ n. progress.OnPost n) same
+  posted_fixed why (transfer.ReceiveClaimed buffer capacity) post paired same = ap (λ n. progress.OnPost n) same
+  posted_fixed why (transfer.SendPartitions side) post paired same = ap (λ n. progress.OnPost n) same
+  posted_fixed why (transfer.ReceivePartitions side) post paired same = ap (λ n. progress.OnPost n) same
+
+  replied_by : (site : Site) (w : Wanted) (r : Reply) (part : Part) → IsSamePost w r → Named (replied site w r) part
   replied_by site (wanted.Post why t) (reply.Posted post paired) part same =
       done_by site (begun_outcome why t (posted t post paired)) part
-      (begun_fixed names why t (posted t post paired) (posted_fixed t post paired same))
+      (begun_fixed names sends why t (posted t post paired) (posted_fixed why t post paired same))
   replied_by site (wanted.MessageOrPost target) (reply.Posted post paired) part same =
       done_by site (outcome.Waits post) part same
   replied_by site (wanted.MessageOrPost target) (reply.Got message) part same = message_by site target message part
@@ -402,7 +418,7 @@ module _ (names : Renaming) where
   visited_by site (visit.Sees side box asked) answer.Missed part = not_yet_by Immediate part
   visited_by site _ _ part = ended_by code.BadRequest 0 part
 
-  row_by : (site : Site) (row : Row) (a : Answer) (part : Part) → IsFixedRow names row → IsSameNamed names a
+  row_by : (site : Site) (row : Row) (a : Answer) (part : Part) → IsFixedRow names sends row → IsSameAt row a
       → Named (told_row site row a) part
   row_by site (AtOnce o) a part fixed same = done_by site o part fixed
   row_by site (OnReply m w) (answer.Reply reply.NotYet) part fixed same = not_yet_by m part
@@ -411,36 +427,55 @@ module _ (names : Renaming) where
   row_by site (OnReply m w) _ part fixed same = ended_by code.BadRequest 0 part
   row_by site (OnBox v) a part fixed same = visited_by site v a part
 
-  told_in_by : (site : Site) (hart : ℕ) (a : Answer) (part : Part) → IsSameNamed names a
-      → told_in site hart (doing site (part_by names part)) a (part_by names part)
-      ≡ part_by names (told_in site hart (doing site part) a part)
+  told_in_by : (site : Site) (hart : ℕ) (a : Answer) (part : Part)
+      → IsSameAt (row_in site hart part.memory part.requests part.phases (doing site part)) a
+      → told_in site hart (doing site (part_by names sends part)) a (part_by names sends part)
+      ≡ part_by names sends (told_in site hart (doing site part) a part)
   told_in_by site hart a part same =
-      ap (λ d. told_in site hart d a (part_by names part)) (doing_named names site part)
-      ∙ ap (λ row. told_row site row a (part_by names part))
-      (row_named names site hart part.memory part.requests part.phases (doing site part))
+      ap (λ d. told_in site hart d a (part_by names sends part)) (doing_named names sends site part)
+      ∙ ap (λ row. told_row site row a (part_by names sends part))
+      (row_named names sends site hart part.memory part.requests part.phases (doing site part))
       ∙ row_by site (row_in site hart part.memory part.requests part.phases (doing site part)) a part
-      (row_fixed names site hart part.memory part.requests part.phases (doing site part)) same
+      (row_fixed names sends site hart part.memory part.requests part.phases (doing site part)) same
 
   with_by : (rank : Rank) (hart : ℕ) (part : Part) (stamp : ℕ)
-      → with_part (rank_by names rank) hart (part_by names part) stamp ≡ rank_by names (with_part rank hart part stamp)
+      → with_part (rank_with names sends rank) hart (part_by names sends part) stamp ≡ rank_with names sends (with_part rank hart part stamp)
   with_by rank hart part stamp =
-      ap (λ hs. record (rank_by names rank) {
+      ap (λ hs. record (rank_with names sends rank) {
         memory = part.memory;
         harts = hs;
-        requests = table_by names part.requests;
+        requests = table_with names sends part.requests;
         phases = part.phases;
         out = part.out;
         clock = stamp;
       }) (sym (map-set (hart_by names) rank.harts hart part.hart))
 
-  tells : (rank : Rank) (hart : ℕ) (a : Answer) (stamp : ℕ) → IsSameNamed names a
-      → told (rank_by names rank) hart a stamp ≡ rank_by names (told rank hart a stamp)
+  pub tells_at : (rank : Rank) (hart : ℕ) (a : Answer) (stamp : ℕ) → IsSameAt (row_at rank hart) a
+      → told (rank_with names sends rank) hart a stamp ≡ rank_with names sends (told rank hart a stamp)
   unfolding told
-  tells rank hart a stamp same =
-      ap (λ p. with_part (rank_by names rank) hart (told_in rank.site hart (doing rank.site p) a p) stamp)
-      (part_named names rank hart)
-      ∙ ap (λ p. with_part (rank_by names rank) hart p stamp) (told_in_by rank.site hart a (part_of rank hart) same)
+  tells_at rank hart a stamp same =
+      ap (λ p. with_part (rank_with names sends rank) hart (told_in rank.site hart (doing rank.site p) a p) stamp)
+      (part_named names sends rank hart)
+      ∙ ap (λ p. with_part (rank_with names sends rank) hart p stamp) (told_in_by rank.site hart a (part_of rank hart) same)
       ∙ with_by rank hart (told_in rank.site hart (doing rank.site (part_of rank hart)) a (part_of rank hart)) stamp
 
+-- ---- by one renaming
+
+module _ (names : Renaming) where
+  same_post : (w : Wanted) (r : Reply) → IsSameNamed names (answer.Reply r) → IsSamePost names (number_by names) w r
+  same_post (wanted.Post why (transfer.Send false buffer count dest tag comm)) (reply.Posted post paired) same = same
+  same_post (wanted.Post why t) (reply.Posted post paired) same = same
+  same_post (wanted.MessageOrPost target) (reply.Posted post paired) same = same
+  same_post _ _ same = tt
+
+  same_at : (row : Row) (a : Answer) → IsSameNamed names a → IsSameAt names (number_by names) row a
+  same_at (OnReply m w) (answer.Reply r) same = same_post w r same
+  same_at _ _ same = tt
+
+  tells : (rank : Rank) (hart : ℕ) (a : Answer) (stamp : ℕ) → IsSameNamed names a
+      → told (rank_by names rank) hart a stamp ≡ rank_by names (told rank hart a stamp)
+  tells rank hart a stamp same =
+      tells_at names (number_by names) rank hart a stamp (same_at (row_at rank hart) a same)
+
 pub names_law : NamesLaw
-names_law = record { asks = asks; tells = tells }
+names_law = record { asks = λ names. asks names (number_by names); tells = tells }

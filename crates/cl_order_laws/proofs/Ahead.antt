@@ -6,7 +6,7 @@ use Rattle.rv_hart.specs.declared.state.Mode.{Mode}
 use Rattle.rv_hart.specs.declared.state.Mode.TheVariants.{Running, Waiting, Ended, Trapped}
 use Rattle.rv_hart.specs.declared.state.Wait.TheVariants.{Post, Again}
 use Rattle.mp_request.specs.declared.entries.OpenRequest.{OpenRequest}
-use Rattle.mp_request.specs.declared.entries.Progress.TheVariants.{Finished, OnPost, InPhase}
+use Rattle.mp_request.specs.declared.entries.Progress.TheVariants.{Finished, Sent, OnPost, InPhase}
 use Rattle.mp_request.specs.declared.entries.State.{State as RequestState}
 use Rattle.mp_request.specs.declared.entries.State.TheVariants.{Ordinary, Inactive, Active}
 use Rattle.mp_request.specs.Table.{Table}
@@ -19,7 +19,7 @@ use Rattle.cl_state_laws.specs.Vain.{IsStopped, mode_of}
 use Rattle.cl_state_laws.specs.VainLaws.{at_clock}
 use Rattle.cl_state_laws.proofs.Vain.{vain_law}
 use Rattle.mp_alike_laws.specs.Renaming.{Renaming, followed_by, number_by}
-use Rattle.cl_names_laws.specs.Named.{ask_by, hart_by, mode_by, open_by, rank_by, state_by, table_by}
+use Rattle.cl_names_laws.specs.Named.{ask_by, hart_by, mode_by, open_with, rank_by, rank_with, state_with, table_with}
 use Rattle.cl_names_laws.proofs.Asks.{part_named}
 use Rattle.cl_order_laws.specs.Alike.{AlikeRanks}
 use Rattle.cl_order_laws.specs.Closed.{IsAhead, IsBehind, IsDone, IsSamePlace, NeedsOnlyRank}
@@ -39,32 +39,48 @@ module _ (names more : Renaming) where
   mode_on (Ended code) = refl
   mode_on (Trapped cause pc) = refl
 
-  state_on : (s : RequestState) → state_by more (state_by names s) ≡ state_by (followed_by names more) s
-  state_on (Ordinary Finished) = refl
-  state_on (Ordinary (OnPost n)) = ap (λ k. Ordinary (OnPost k)) (number_on n)
-  state_on (Ordinary InPhase) = refl
-  state_on Inactive = refl
-  state_on (Active Finished) = refl
-  state_on (Active (OnPost n)) = ap (λ k. Active (OnPost k)) (number_on n)
-  state_on (Active InPhase) = refl
-
   harts_on : (hs : List State)
       → map (hart_by more) (map (hart_by names) hs) ≡ map (hart_by (followed_by names more)) hs
   harts_on [] = refl
   harts_on (h ∷ hs) = λ k. in_mode h (mode_on h.mode k) ∷ harts_on hs k
 
-  open_on : (o : Option OpenRequest)
-      → option_map (open_by more) (option_map (open_by names) o) ≡ option_map (open_by (followed_by names more)) o
-  open_on None = refl
-  open_on (Some r) =
-      ap (λ s. (let q : OpenRequest = record { transfer = r.transfer; state = s } in Some q)) (state_on r.state)
+  -- where standard sends are numbered otherwise
+  module _ (first second : ℕ → ℕ) where
+    abbrev then_second : ℕ → ℕ
+    then_second post = second (first post)
 
-  table_on : (t : Table) → table_by more (table_by names t) ≡ table_by (followed_by names more) t
-  table_on [] = refl
-  table_on (o ∷ t) = λ k. open_on o k ∷ table_on t k
+    state_on : (s : RequestState)
+        → state_with more second (state_with names first s) ≡ state_with (followed_by names more) then_second s
+    state_on (Ordinary Finished) = refl
+    state_on (Ordinary (Sent n)) = refl
+    state_on (Ordinary (OnPost n)) = ap (λ k. Ordinary (OnPost k)) (number_on n)
+    state_on (Ordinary InPhase) = refl
+    state_on Inactive = refl
+    state_on (Active Finished) = refl
+    state_on (Active (Sent n)) = refl
+    state_on (Active (OnPost n)) = ap (λ k. Active (OnPost k)) (number_on n)
+    state_on (Active InPhase) = refl
+
+    open_on : (o : Option OpenRequest)
+        → option_map (open_with more second) (option_map (open_with names first) o)
+        ≡ option_map (open_with (followed_by names more) then_second) o
+    open_on None = refl
+    open_on (Some r) =
+        ap (λ s. (let q : OpenRequest = record { transfer = r.transfer; state = s } in Some q)) (state_on r.state)
+
+    table_on : (t : Table)
+        → table_with more second (table_with names first t) ≡ table_with (followed_by names more) then_second t
+    table_on [] = refl
+    table_on (o ∷ t) = λ k. open_on o k ∷ table_on t k
+
+    pub with_on : (a : Rank)
+        → rank_with more second (rank_with names first a) ≡ rank_with (followed_by names more) then_second a
+    with_on a = λ k. record a { harts = harts_on a.harts k; requests = table_on a.requests k }
 
   pub rank_on : (a : Rank) → rank_by more (rank_by names a) ≡ rank_by (followed_by names more) a
-  rank_on a = λ k. record a { harts = harts_on a.harts k; requests = table_on a.requests k }
+  rank_on a =
+      with_on (number_by names) (number_by more) a
+      ∙ ap (λ sends. rank_with (followed_by names more) sends a) (λ k n. number_on n k)
 
   pub alike_on : (a b c : Rank) → AlikeRanks names a b → AlikeRanks more b c → AlikeRanks (followed_by names more) a c
   alike_on a b c f g =
@@ -75,7 +91,7 @@ module _ (names more : Renaming) where
 module _ (names : Renaming) (a b : Rank) (alike : AlikeRanks names a b) where
   pub mode_alike : (hart : ℕ) → mode_of b hart ≡ mode_by names (mode_of a hart)
   mode_alike hart =
-      ap (λ x. mode_of x hart) alike.1 ∙ ap (λ p. p.hart.mode) (part_named names a hart)
+      ap (λ x. mode_of x hart) alike.1 ∙ ap (λ p. p.hart.mode) (part_named names (number_by names) a hart)
 
   pub stopped_back : (m : Mode) → IsStopped (mode_by names m) → IsStopped m
   stopped_back Running is = is

@@ -4,7 +4,7 @@ use Rattle.rv_hart.specs.State.{State}
 use Rattle.rv_hart.specs.declared.state.Mode.{Mode}
 use Rattle.rv_hart.specs.declared.state.Mode.TheVariants.{Running, Waiting, Ended, Trapped}
 use Rattle.rv_hart.specs.declared.state.Wait.TheVariants.{Post, Again}
-use Rattle.mp_alike_laws.specs.Renaming.{Renaming}
+use Rattle.mp_alike_laws.specs.Renaming.{Renaming, number_by}
 use Rattle.cl_state.specs.declared.asking.Ask.{Ask}
 use Rattle.cl_state.specs.declared.asking.Doing.{Doing}
 use Rattle.cl_state.specs.declared.asking.Doing.TheVariants.{Step, Refused, Go, Poll, Stopped}
@@ -35,7 +35,7 @@ module _ (names : Renaming) (a b : Rank) (alike : AlikeRanks names a b) where
 
   hart_alike : (hart : ℕ) → (part_of b hart).hart ≡ hart_by names (part_of a hart).hart
   hart_alike hart =
-      ap (λ (x : Rank). (part_of x hart).hart) alike.1 ∙ ap (λ p. p.hart) (part_named names a hart)
+      ap (λ (x : Rank). (part_of x hart).hart) alike.1 ∙ ap (λ p. p.hart) (part_named names (number_by names) a hart)
 
   tells : TellsAlike a b
   tells = record {
@@ -62,7 +62,7 @@ module _ (names : Renaming) (a b : Rank) (alike : AlikeRanks names a b) where
   doing_alike : (hart : ℕ) → doing b.site (part_of b hart) ≡ doing_by names (doing a.site (part_of a hart))
   doing_alike hart =
       ap (λ (x : Rank). doing x.site (part_of x hart)) alike.1
-      ∙ ap (doing a.site) (part_named names a hart) ∙ doing_named names a.site (part_of a hart)
+      ∙ ap (doing a.site) (part_named names (number_by names) a hart) ∙ doing_named names (number_by names) a.site (part_of a hart)
 
   pub patient_on : (hart : ℕ) → IsPatient a hart → IsPatient b hart
   patient_on hart p = record {

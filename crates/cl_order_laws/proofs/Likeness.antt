@@ -10,7 +10,7 @@ use Rattle.rv_hart.specs.declared.state.Mode.{Mode}
 use Rattle.rv_hart.specs.declared.state.Mode.TheVariants.{Running, Waiting, Ended, Trapped}
 use Rattle.rv_hart.specs.declared.state.Wait.TheVariants.{Post, Again}
 use Rattle.mp_request.specs.declared.entries.OpenRequest.{OpenRequest}
-use Rattle.mp_request.specs.declared.entries.Progress.TheVariants.{Finished, OnPost, InPhase}
+use Rattle.mp_request.specs.declared.entries.Progress.TheVariants.{Finished, Sent, OnPost, InPhase}
 use Rattle.mp_request.specs.declared.entries.State.{State as RequestState}
 use Rattle.mp_request.specs.declared.entries.State.TheVariants.{Ordinary, Inactive, Active}
 use Rattle.mp_request.specs.Table.{Table}
@@ -43,10 +43,12 @@ module _ (names : Renaming) (fixed : (n : ℕ) → number_by names n ≡ n) wher
 
   state_fixed : (s : RequestState) → state_by names s ≡ s
   state_fixed (Ordinary Finished) = refl
+  state_fixed (Ordinary (Sent n)) = ap (λ k. Ordinary (Sent k)) (fixed n)
   state_fixed (Ordinary (OnPost n)) = ap (λ k. Ordinary (OnPost k)) (fixed n)
   state_fixed (Ordinary InPhase) = refl
   state_fixed Inactive = refl
   state_fixed (Active Finished) = refl
+  state_fixed (Active (Sent n)) = ap (λ k. Active (Sent k)) (fixed n)
   state_fixed (Active (OnPost n)) = ap (λ k. Active (OnPost k)) (fixed n)
   state_fixed (Active InPhase) = refl
 

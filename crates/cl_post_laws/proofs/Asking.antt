@@ -1,4 +1,4 @@
--- A rank asks about posts that it names alone: a number that it asks about would change with the names.
+-- A rank asks about posts that it awaits alone: a number that it asks about would change with the names.
 use Rattle.std.proofs.Common.{◌≡◌, ◌∙◌, ℕ, zero, suc, ◌+◌, ◌<◌, inl, inr, refl, sym, ap, arith, Bool, true, false}
 use Rattle.std.specs.Prelude.{◌==◌, cond}
 use Rattle.std.proofs.lemmas.Bool.{cases_eq, eq-eqb, ne_eqb}
@@ -9,9 +9,9 @@ use Rattle.cl_state.specs.declared.asking.Ask.TheVariants as ask
 use Rattle.cl_state.specs.Asked.{asked}
 use Rattle.cl_state.specs.Rank.{Rank}
 use Rattle.mp_alike_laws.specs.Renaming.{Renaming, number_by, request_by}
-use Rattle.cl_names_laws.proofs.Told.{names_law}
+use Rattle.cl_names_laws.proofs.Asks.{asks as asks_named}
 use Rattle.cl_post_laws.specs.Laws.{AsksOnly, IsNamed}
-use Rattle.cl_post_laws.specs.Names.{NamesOnly}
+use Rattle.cl_post_laws.specs.Names.{AwaitsOnly, Keeps, as_before}
 
 -- ---- two places exchanged
 
@@ -48,9 +48,6 @@ module _ (a b : ℕ) where
 
 -- ---- what is the same by all names that keep a set of posts
 
-abbrev Keeps : (ℕ → Bool) → Renaming → Type 0
-Keeps named names = (place : ℕ) → named place ≡ true → names.to place ≡ place
-
 module _ (named : ℕ → Bool) (most : ℕ) (bound : (place : ℕ) → named place ≡ true → place < most) where
   -- a number that all of these names keep is of the set, since else one of them exchanges it with one behind the set
   kept : (post : ℕ) → ((names : Renaming) → Keeps named names → number_by names post ≡ post) → IsNamed named post
@@ -79,6 +76,6 @@ module _ (named : ℕ → Bool) (most : ℕ) (bound : (place : ℕ) → named pl
       kept post (λ names keeps. cc (same names keeps, here, slice_get-map (number_by names) posts i))
   asks_kept _ same = tt
 
-  pub asks : (rank : Rank) (hart : ℕ) (q : Request) → NamesOnly named rank → asked rank hart ≡ ask.Hub q → AsksOnly named q
+  pub asks : (rank : Rank) (hart : ℕ) (q : Request) → AwaitsOnly named rank → asked rank hart ≡ ask.Hub q → AsksOnly named q
   asks rank hart q old is =
-      asks_kept q (λ names keeps. cc (is, old names keeps, (names_law.asks) names rank hart))
+      asks_kept q (λ names keeps. cc (is, old names keeps, asks_named names (as_before names) rank hart))

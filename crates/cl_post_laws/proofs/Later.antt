@@ -38,7 +38,8 @@ use Rattle.cl_state.specs.Table.{comes, into, nothing_comes, row_in}
 use Rattle.cl_state.specs.Told.{received, received_from, received_message, returned, told, told_row, waiting, with_part}
 use Rattle.cl_state.specs.Transfers.{asked_transfer, receive_of, send_of}
 use Rattle.cl_post_laws.proofs.Posting.{BeginsTransfer, MakesPost, makes_post}
-use Rattle.cl_post_laws.proofs.Renamed.{by_row, row_at}
+use Rattle.cl_names_laws.proofs.Told.{row_at}
+use Rattle.cl_post_laws.proofs.Renamed.{by_row}
 
 -- ---- who asks for a message now
 

@@ -39,15 +39,11 @@ use Rattle.cl_names_laws.specs.Named.{IsSameNamed, hart_by, open_by, progress_by
 use Rattle.cl_names_laws.proofs.Asks.{doing_named, part_by, part_named}
 use Rattle.cl_names_laws.proofs.Rows.{row_named}
 use Rattle.cl_names_laws.proofs.Tables.{free_named, request_named, with_named}
-use Rattle.cl_names_laws.proofs.Told.{names_law}
+use Rattle.cl_names_laws.proofs.Told.{IsSameAt, IsSamePost, names_law, row_at, tells_at}
 use Rattle.cl_post_laws.specs.Laws.{IsNamed, NamesBelow, TellsBelow, TellsOnly}
-use Rattle.cl_post_laws.specs.Names.{NamesOnly}
+use Rattle.cl_post_laws.specs.Names.{AwaitsOnly, IsSameBy, Keeps, NamesOnly, as_before}
 
 -- ---- a turn by its row
-
-abbrev pub row_at : Rank → ℕ → Row
-row_at rank hart =
-    row_in rank.site hart rank.memory rank.requests rank.phases (doing rank.site (part_of rank hart))
 
 abbrev pub told_as : Rank → ℕ → Part → ℕ → Rank
 told_as rank hart part stamp = with_part rank hart part stamp
@@ -58,40 +54,43 @@ unfolding told
 by_row rank hart a stamp = refl
 
 module _ (names : Renaming) where
+  abbrev numbers : ℕ → ℕ
+  numbers = number_by names
+
   row_same : (rank : Rank) (hart : ℕ) → row_at (rank_by names rank) hart ≡ row_at rank hart
   row_same rank hart =
       ap (λ p. row_in rank.site hart rank.memory (table_by names rank.requests) rank.phases (doing rank.site p))
-      (part_named names rank hart)
+      (part_named names numbers rank hart)
       ∙ ap (row_in rank.site hart rank.memory (table_by names rank.requests) rank.phases)
-      (doing_named names rank.site (part_of rank hart))
-      ∙ row_named names rank.site hart rank.memory rank.requests rank.phases (doing rank.site (part_of rank hart))
+      (doing_named names numbers rank.site (part_of rank hart))
+      ∙ row_named names numbers rank.site hart rank.memory rank.requests rank.phases (doing rank.site (part_of rank hart))
 
   -- ---- where the number of the post is told
 
   Named : (Part → Part) → (Part → Part) → Part → Type 0
-  Named f g part = f (part_by names part) ≡ part_by names (g part)
+  Named f g part = f (part_by names numbers part) ≡ part_by names numbers (g part)
 
   part_with : State → Memory → Table → List Phase → List ℕ → Part
   part_with hart memory requests phases out =
       record { hart = hart; memory = memory; requests = requests; phases = phases; out = out }
 
   ended_with : (c : Code) (v : ℕ) (part : Part) (t u : Table) → t ≡ table_by names u
-      → ended c v (record (part_by names part) { requests = t }) ≡ part_by names (ended c v (record part { requests = u }))
+      → ended c v (record (part_by names numbers part) { requests = t }) ≡ part_by names numbers (ended c v (record part { requests = u }))
   unfolding returned
   ended_with c v part t u same =
-      ap (λ x. ended c v (record (part_by names part) { requests = x })) same
+      ap (λ x. ended c v (record (part_by names numbers part) { requests = x })) same
 
-  waits_by : (post : ℕ) (part : Part) → waiting (number_by names post) (part_by names part) ≡ part_by names (waiting post part)
+  waits_by : (post : ℕ) (part : Part) → waiting (number_by names post) (part_by names numbers part) ≡ part_by names numbers (waiting post part)
   waits_by post part = refl
 
-  opened_by : (r : OpenRequest) (part : Part) → opened (open_by names r) (part_by names part) ≡ part_by names (opened r part)
+  opened_by : (r : OpenRequest) (part : Part) → opened (open_by names r) (part_by names numbers part) ≡ part_by names numbers (opened r part)
   opened_by r part =
-      ap (λ o. opened_at o (open_by names r) (part_by names part)) (free_named names part.requests)
+      ap (λ o. opened_at o (open_by names r) (part_by names numbers part)) (free_named names numbers part.requests)
       ∙ go (lowest_free part.requests)
     where
-      go : (o : Option ℕ) → opened_at o (open_by names r) (part_by names part) ≡ part_by names (opened_at o r part)
+      go : (o : Option ℕ) → opened_at o (open_by names r) (part_by names numbers part) ≡ part_by names numbers (opened_at o r part)
       go None = ended_with code.Full 0 part _ part.requests refl
-      go (Some handle) = ended_with code.Ok handle part _ _ (with_named names part.requests handle (Some r))
+      go (Some handle) = ended_with code.Ok handle part _ _ (with_named names numbers part.requests handle (Some r))
 
   active_by : (p : Progress) (o : Option OpenRequest)
       → option_map (active_with (progress_by names p)) (option_map (open_by names) o)
@@ -103,14 +102,15 @@ module _ (names : Renaming) where
       → started (table_by names table) handle (progress_by names p) ≡ table_by names (started table handle p)
   started_by p handle table =
       ap (λ o. with_request (table_by names table) handle (option_map (active_with (progress_by names p)) o))
-      (request_named names table handle)
+      (request_named names numbers table handle)
       ∙ ap (with_request (table_by names table) handle) (active_by p (request_at table handle))
-      ∙ with_named names table handle (option_map (active_with p) (request_at table handle))
+      ∙ with_named names numbers table handle (option_map (active_with p) (request_at table handle))
 
   begun_by : (site : Site) (why : Purpose) (t : Transfer) (p : Progress) (part : Part)
-      → done site (begun_outcome why t (progress_by names p)) (part_by names part)
-      ≡ part_by names (done site (begun_outcome why t p) part)
+      → done site (begun_outcome why t (progress_by names p)) (part_by names numbers part)
+      ≡ part_by names numbers (done site (begun_outcome why t p) part)
   begun_by site purpose.Send t progress.Finished part = ended_with code.Ok 0 part _ part.requests refl
+  begun_by site purpose.Send t (progress.Sent post) part = ended_with code.Ok 0 part _ part.requests refl
   begun_by site purpose.Send t (progress.OnPost post) part = waits_by post part
   begun_by site purpose.Send t progress.InPhase part = ended_with code.BadRequest 0 part _ part.requests refl
   begun_by site purpose.Open t p part = opened_by (record { transfer = t; state = state.Ordinary p }) part
@@ -137,14 +137,14 @@ module _ (names : Renaming) where
   visited_as site (visit.Takes m side box target) post paired part = refl
   visited_as site (visit.Sees side box which) post paired part = refl
 
-  unfit : (part : Part) → ended code.BadRequest 0 (part_by names part) ≡ part_by names (ended code.BadRequest 0 part)
+  unfit : (part : Part) → ended code.BadRequest 0 (part_by names numbers part) ≡ part_by names numbers (ended code.BadRequest 0 part)
   unfit part = ended_with code.BadRequest 0 part _ part.requests refl
 
   replied_by : (site : Site) (w : Wanted) (post : ℕ) (paired : Bool) (part : Part)
-      → replied site w (reply.Posted (number_by names post) paired) (part_by names part)
-      ≡ part_by names (replied site w (reply.Posted post paired) part)
+      → replied site w (reply.Posted (number_by names post) paired) (part_by names numbers part)
+      ≡ part_by names numbers (replied site w (reply.Posted post paired) part)
   replied_by site (wanted.Post why t) post paired part =
-      ap (λ p. done site (begun_outcome why t p) (part_by names part)) (posted_by t post paired)
+      ap (λ p. done site (begun_outcome why t p) (part_by names numbers part)) (posted_by t post paired)
       ∙ begun_by site why t (posted t post paired) part
   replied_by site (wanted.MessageOrPost target) post paired part = waits_by post part
   replied_by site (wanted.Message target) post paired part = unfit part
@@ -159,7 +159,7 @@ module _ (names : Renaming) where
   replied_by site wanted.Nothing post paired part = unfit part
 
   with_by : (rank : Rank) (hart : ℕ) (part : Part) (stamp : ℕ)
-      → with_part (rank_by names rank) hart (part_by names part) stamp ≡ rank_by names (with_part rank hart part stamp)
+      → with_part (rank_by names rank) hart (part_by names numbers part) stamp ≡ rank_by names (with_part rank hart part stamp)
   with_by rank hart part stamp =
       ap (λ hs. record (rank_by names rank) {
         memory = part.memory;
@@ -183,14 +183,14 @@ module _ (names : Renaming) where
 
       -- where the row says what a turn does by itself
       from : (row : Row) → row_at rank hart ≡ row
-          → told_row rank.site row theirs (part_by names (part_of rank hart))
-          ≡ part_by names (told_row rank.site row mine (part_of rank hart))
+          → told_row rank.site row theirs (part_by names numbers (part_of rank hart))
+          ≡ part_by names numbers (told_row rank.site row mine (part_of rank hart))
           → told (rank_by names rank) hart theirs stamp ≡ rank_by names (told rank hart mine stamp)
       from row is same =
           by_row (rank_by names rank) hart theirs stamp
           ∙ ap (λ x. with_part (rank_by names rank) hart (told_row rank.site x theirs (part_of (rank_by names rank) hart)) stamp)
           (row_same rank hart ∙ is)
-          ∙ ap (λ p. with_part (rank_by names rank) hart (told_row rank.site row theirs p) stamp) (part_named names rank hart)
+          ∙ ap (λ p. with_part (rank_by names rank) hart (told_row rank.site row theirs p) stamp) (part_named names numbers rank hart)
           ∙ ap (λ p. with_part (rank_by names rank) hart p stamp) same
           ∙ with_by rank hart (told_row rank.site row mine (part_of rank hart)) stamp
           ∙ ap (rank_by names)
@@ -215,9 +215,9 @@ module _ (names : Renaming) where
       go (OnReply m w) is = from (OnReply m w) is (replied_by rank.site w post paired (part_of rank hart))
       go (OnBox v) is =
           from (OnBox v) is
-          (visited_as rank.site v (number_by names post) paired (part_by names (part_of rank hart))
+          (visited_as rank.site v (number_by names post) paired (part_by names numbers (part_of rank hart))
           ∙ unfit (part_of rank hart)
-          ∙ ap (part_by names) (sym (visited_as rank.site v post paired (part_of rank hart))))
+          ∙ ap (part_by names numbers) (sym (visited_as rank.site v post paired (part_of rank hart))))
 
   pub renamed : (rank : Rank) (hart : ℕ) (r : Reply) (stamp : ℕ)
       → told (rank_by names rank) hart (answer.Reply (reply_by names r)) stamp
@@ -254,16 +254,40 @@ below n m rank hart a stamp more old tells names fixed =
     same (answer.Reply (reply.Posted post done)) h = number post h
     same _ h = tt
 
-pub only : (named more : ℕ → Bool) (rank : Rank) (hart : ℕ) (a : Answer) (stamp : ℕ)
-    → ((place : ℕ) → named place ≡ true → more place ≡ true) → NamesOnly named rank → TellsOnly more a
-    → NamesOnly more (told rank hart a stamp)
-only named more rank hart a stamp within old tells names fixed =
-    goes_on names rank hart a stamp (old names (λ place h. fixed place (within place h))) (same a tells)
-  where
-    number : (post : ℕ) → IsNamed more post → number_by names post ≡ post
-    number zero h = refl
-    number (suc place) h = ap suc (fixed place h)
+-- what the names keep has the same number
+kept : (set : ℕ → Bool) (names : Renaming) → Keeps set names → (post : ℕ) → IsNamed set post → number_by names post ≡ post
+kept set names keeps zero is = refl
+kept set names keeps (suc place) is = ap suc (keeps place is)
 
-    same : (a : Answer) → TellsOnly more a → IsSameNamed names a
-    same (answer.Reply (reply.Posted post done)) h = number post h
-    same _ h = tt
+-- where these numbers keep it too
+module _ (sends : Renaming → ℕ → ℕ) (more : ℕ → Bool)
+    (also : (names : Renaming) → Keeps more names → (post : ℕ) → IsNamed more post → sends names post ≡ post) where
+  same_post : (names : Renaming) → Keeps more names → (w : Wanted) (r : Reply) → TellsOnly more (answer.Reply r)
+      → IsSamePost names (sends names) w r
+  same_post names keeps (wanted.Post why (transfer.Send false buffer count dest tag comm)) (reply.Posted post paired) h =
+      also names keeps post h
+  same_post names keeps (wanted.Post why t) (reply.Posted post paired) h = kept more names keeps post h
+  same_post names keeps (wanted.MessageOrPost target) (reply.Posted post paired) h = kept more names keeps post h
+  same_post names keeps _ _ h = tt
+
+  same_at : (names : Renaming) → Keeps more names → (row : Row) (a : Answer) → TellsOnly more a
+      → IsSameAt names (sends names) row a
+  same_at names keeps (OnReply m w) (answer.Reply r) h = same_post names keeps w r h
+  same_at names keeps _ _ h = tt
+
+  pub only : (set : ℕ → Bool) (rank : Rank) (hart : ℕ) (a : Answer) (stamp : ℕ)
+      → ((place : ℕ) → set place ≡ true → more place ≡ true) → IsSameBy sends set rank → TellsOnly more a
+      → IsSameBy sends more (told rank hart a stamp)
+  only set rank hart a stamp within old tells names keeps =
+      sym (tells_at names (sends names) rank hart a stamp (same_at names keeps (row_at rank hart) a tells))
+      ∙ ap (λ x. told x hart a stamp) (old names (λ place h. keeps place (within place h)))
+
+pub names_only : (set more : ℕ → Bool) (rank : Rank) (hart : ℕ) (a : Answer) (stamp : ℕ)
+    → ((place : ℕ) → set place ≡ true → more place ≡ true) → NamesOnly set rank → TellsOnly more a
+    → NamesOnly more (told rank hart a stamp)
+names_only set more = only number_by more (kept more) set
+
+pub awaits_only : (set more : ℕ → Bool) (rank : Rank) (hart : ℕ) (a : Answer) (stamp : ℕ)
+    → ((place : ℕ) → set place ≡ true → more place ≡ true) → AwaitsOnly set rank → TellsOnly more a
+    → AwaitsOnly more (told rank hart a stamp)
+awaits_only set more = only as_before more (λ names keeps post is. refl) set

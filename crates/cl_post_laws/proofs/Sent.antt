@@ -1,4 +1,4 @@
--- A standard send, whose number is forgotten since it is complete when it is posted.
+-- A standard send, of which its rank asks nothing more, since it is complete when it is posted.
 use Rattle.std.proofs.Common.{◌≡◌, ◌∙◌, ℕ, refl, sym, ap, subst, Bool, true, false, List, Option, Some, None}
 use Rattle.std.specs.Prelude.{◌==◌, if◌then◌else◌}
 use Rattle.rv_memory.specs.Memory.{Memory}
@@ -21,14 +21,15 @@ use Rattle.cl_state.specs.declared.asking.Doing.{Doing}
 use Rattle.cl_state.specs.declared.row.Purpose.{Purpose}
 use Rattle.cl_state.specs.declared.row.Purpose.TheVariants as purpose
 use Rattle.cl_state.specs.declared.row.Row.{Row}
-use Rattle.cl_state.specs.Asked.{Part, asked, asked_by, asked_in, asked_start, doing, part_of}
+use Rattle.cl_state.specs.Asked.{asked, asked_by, asked_in, asked_start, doing, part_of}
 use Rattle.cl_state.specs.Rank.{Rank}
 use Rattle.cl_state.specs.Table.{begins, row_in, row_of, starts}
-use Rattle.cl_state.specs.Told.{told, told_row, with_part}
+use Rattle.cl_state.specs.Told.{told}
 use Rattle.cl_state.specs.Transfers.{asked_transfer, receive_of, send_of}
-use Rattle.cl_post_laws.specs.Names.{NamesOnly}
+use Rattle.mp_alike_laws.specs.Renaming.{Renaming}
+use Rattle.cl_names_laws.proofs.Told.{IsSameAt, row_at, tells_at}
+use Rattle.cl_post_laws.specs.Names.{AwaitsOnly, as_before}
 use Rattle.cl_post_laws.proofs.Posting.{BeginsTransfer, MakesPost, makes_post}
-use Rattle.cl_post_laws.proofs.Renamed.{by_row, only, row_at}
 
 -- ---- who asks for a standard send
 
@@ -45,13 +46,13 @@ standard_makes _ is = absurd is
 abbrev complete : ℕ → Answer
 complete post = answer.Reply (reply.Posted post true)
 
--- told that its post is complete, it does the same by any number
+-- told that its post is complete, it awaits none
 abbrev Forgets : Row → Type 0
-Forgets row = (site : Site) (part : Part) (post : ℕ) → told_row site row (complete 0) part ≡ told_row site row (complete post) part
+Forgets row = (names : Renaming) (post : ℕ) → IsSameAt names (as_before names) row (complete post)
 
 begun : (memory : Memory) (now : Bool) (why : Purpose) (t : Transfer) → IsStandard (asked_transfer memory now t)
     → Forgets (begins why t)
-begun memory now why (transfer.Send false buffer count dest tag comm) is = λ site part post. refl
+begun memory now why (transfer.Send false buffer count dest tag comm) is = λ names post. refl
 begun memory now why _ is = absurd is
 
 started : (memory : Memory) (handle : ℕ) (o : Option OpenRequest) → IsStandard (asked_start memory o)
@@ -86,20 +87,15 @@ module _ (site : Site) (hart : ℕ) (memory : Memory) (table : Table) (phases : 
 
 -- ---- a rank
 
-pub forgets : (named : ℕ → Bool) (rank : Rank) (hart comm dest tag : ℕ) (bytes : List ℕ) (post stamp : ℕ)
-    → asked rank hart ≡ ask.Hub (request.Send false comm dest tag bytes) → NamesOnly named rank
-    → NamesOnly named (told rank hart (complete post) stamp)
+pub forgets : (set : ℕ → Bool) (rank : Rank) (hart comm dest tag : ℕ) (bytes : List ℕ) (post stamp : ℕ)
+    → asked rank hart ≡ ask.Hub (request.Send false comm dest tag bytes) → AwaitsOnly set rank
+    → AwaitsOnly set (told rank hart (complete post) stamp)
 unfolding asked
-forgets named rank hart comm dest tag bytes post stamp asks old =
-    subst (NamesOnly named) same (only named named rank hart (complete 0) stamp (λ place is. is) old tt)
+forgets set rank hart comm dest tag bytes post stamp asks old names keeps =
+    sym (tells_at names (as_before names) rank hart (complete post) stamp (row names post))
+    ∙ ap (λ x. told x hart (complete post) stamp) (old names keeps)
   where
     row : Forgets (row_at rank hart)
     row =
         by_doing rank.site hart rank.memory rank.requests rank.phases (doing rank.site (part_of rank hart))
         (subst IsStandard (sym asks) tt)
-
-    same : told rank hart (complete 0) stamp ≡ told rank hart (complete post) stamp
-    same =
-        by_row rank hart (complete 0) stamp
-        ∙ ap (λ p. with_part rank hart p stamp) (row rank.site (part_of rank hart) post)
-        ∙ sym (by_row rank hart (complete post) stamp)

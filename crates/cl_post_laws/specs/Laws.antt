@@ -15,7 +15,7 @@ use Rattle.cl_state.specs.declared.asking.Ask.{Ask}
 use Rattle.cl_state.specs.Asked.{asked}
 use Rattle.cl_state.specs.Rank.{Rank}
 use Rattle.cl_state.specs.Told.{told}
-use Rattle.cl_post_laws.specs.Names.{NamesOnly}
+use Rattle.cl_post_laws.specs.Names.{AwaitsOnly, NamesOnly}
 
 -- ---- the first so many posts
 
@@ -33,20 +33,20 @@ TellsBelow n _ = Unit {0}
 
 -- the post of this number is in the set; 0 is no post's number
 abbrev pub IsNamed : (ℕ → Bool) → ℕ → Type 0
-IsNamed named zero = Unit {0}
-IsNamed named (suc place) = named place ≡ true
+IsNamed set zero = Unit {0}
+IsNamed set (suc place) = set place ≡ true
 
 -- the post that an answer tells of is in the set
 abbrev pub TellsOnly : (ℕ → Bool) → Answer → Type 0
-TellsOnly named (answer.Reply (Posted post done)) = IsNamed named post
-TellsOnly named _ = Unit {0}
+TellsOnly set (answer.Reply (Posted post done)) = IsNamed set post
+TellsOnly set _ = Unit {0}
 
 -- a request asks about posts of the set alone
 abbrev pub AsksOnly : (ℕ → Bool) → Request → Type 0
-AsksOnly named (request.Collect post) = IsNamed named post
-AsksOnly named (request.Finished post) = IsNamed named post
-AsksOnly named (request.All posts) = (i post : ℕ) → slice_get posts i ≡ Some post → IsNamed named post
-AsksOnly named _ = Unit {0}
+AsksOnly set (request.Collect post) = IsNamed set post
+AsksOnly set (request.Finished post) = IsNamed set post
+AsksOnly set (request.All posts) = (i post : ℕ) → slice_get posts i ≡ Some post → IsNamed set post
+AsksOnly set _ = Unit {0}
 
 -- ---- the law
 
@@ -59,17 +59,21 @@ pub record PostLaw : Type 0 where
   pub below : (n m : ℕ) (rank : Rank) (hart : ℕ) (a : Answer) (stamp : ℕ) → n ≤ m → NamesBelow n rank → TellsBelow m a
       → NamesBelow m (told rank hart a stamp)
   -- so it is of any set: a rank names the posts that it named, and those that it was told of
-  pub only : (named more : ℕ → Bool) (rank : Rank) (hart : ℕ) (a : Answer) (stamp : ℕ)
-      → ((place : ℕ) → named place ≡ true → more place ≡ true) → NamesOnly named rank → TellsOnly more a
+  pub names : (set more : ℕ → Bool) (rank : Rank) (hart : ℕ) (a : Answer) (stamp : ℕ)
+      → ((place : ℕ) → set place ≡ true → more place ≡ true) → NamesOnly set rank → TellsOnly more a
       → NamesOnly more (told rank hart a stamp)
-  -- it forgets the number of a standard send, which is complete when it is posted
-  pub forgets : (named : ℕ → Bool) (rank : Rank) (hart comm dest tag : ℕ) (bytes : List ℕ) (post stamp : ℕ)
-      → asked rank hart ≡ Ask.Hub (request.Send false comm dest tag bytes) → NamesOnly named rank
-      → NamesOnly named (told rank hart (answer.Reply (Posted post true)) stamp)
-  -- it asks only about posts that it names, where these are among the first so many
-  pub asks : (named : ℕ → Bool) (most : ℕ) (rank : Rank) (hart : ℕ) (q : Request)
-      → ((place : ℕ) → named place ≡ true → place < most) → NamesOnly named rank → asked rank hart ≡ Ask.Hub q
-      → AsksOnly named q
+  -- and it awaits those that it awaited, and those that it was told of
+  pub awaits : (set more : ℕ → Bool) (rank : Rank) (hart : ℕ) (a : Answer) (stamp : ℕ)
+      → ((place : ℕ) → set place ≡ true → more place ≡ true) → AwaitsOnly set rank → TellsOnly more a
+      → AwaitsOnly more (told rank hart a stamp)
+  -- but no standard send, which is complete when it is posted
+  pub forgets : (set : ℕ → Bool) (rank : Rank) (hart comm dest tag : ℕ) (bytes : List ℕ) (post stamp : ℕ)
+      → asked rank hart ≡ Ask.Hub (request.Send false comm dest tag bytes) → AwaitsOnly set rank
+      → AwaitsOnly set (told rank hart (answer.Reply (Posted post true)) stamp)
+  -- it asks only about posts that it awaits, where these are among the first so many
+  pub asks : (set : ℕ → Bool) (most : ℕ) (rank : Rank) (hart : ℕ) (q : Request)
+      → ((place : ℕ) → set place ≡ true → place < most) → AwaitsOnly set rank → asked rank hart ≡ Ask.Hub q
+      → AsksOnly set q
   -- a hart that asks for a message now, and is told that its receive is posted, asks for what came for that post, and is
   -- left as if it had been given the message at once
   pub polls : (rank : Rank) (hart comm : ℕ) (source tag : Option ℕ) (post stamp : ℕ) → hart < length rank.harts

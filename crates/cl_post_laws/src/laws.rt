@@ -3,7 +3,7 @@
 ghost use Rattle.cl_post_laws.specs.Laws.{PostLaw};
 
 /// A rank that is told of a post by another number goes on the same, by that number. It names posts that it was told of
-/// alone, and asks about those alone; of a standard send it keeps no number. And a receive that is posted first leaves the
+/// alone, and asks about those alone, but never about a standard send. And a receive that is posted first leaves the
 /// same, once its message came, as one that is given it at once.
 pub fn post_law()
     ensures { PostLaw }

@@ -221,6 +221,7 @@ gathered_stays false site value statuses handles gots part = still part _ refl r
 
 begun_starts : (why : Purpose) (t : Transfer) (p : Progress) → sends_in t ≡ None → StartsAs (begun_outcome why t p) None
 begun_starts purpose.Send t progress.Finished none = refl
+begun_starts purpose.Send t (progress.Sent post) none = refl
 begun_starts purpose.Send t (progress.OnPost post) none = refl
 begun_starts purpose.Send t progress.InPhase none = refl
 begun_starts purpose.Open t p none = (refl, none)

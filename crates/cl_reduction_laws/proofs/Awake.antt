@@ -8,9 +8,9 @@ use Rattle.rv_hart.specs.State.{State as Hart, in_mode}
 use Rattle.rv_hart.specs.declared.state.Mode.{Mode}
 use Rattle.rv_hart.specs.declared.state.Mode.TheVariants.{Running, Waiting, Ended, Trapped}
 use Rattle.rv_hart.specs.declared.state.Wait.TheVariants.{Post, Again}
-use Rattle.mp_alike_laws.specs.Renaming.{Renaming}
+use Rattle.mp_alike_laws.specs.Renaming.{Renaming, number_by}
 use Rattle.mp_source_laws.specs.Alike.{Wild}
-use Rattle.cl_names_laws.specs.Named.{hart_by, mode_by, rank_by}
+use Rattle.cl_names_laws.specs.Named.{hart_by, mode_by, rank_by, rank_with}
 use Rattle.cl_state.specs.Rank.{Rank}
 use Rattle.cl_state_laws.specs.Awake.{awake, awake_hart, woken}
 use Rattle.cl_state_laws.specs.VainLaws.{at_clock}
@@ -36,8 +36,11 @@ module _ (names : Renaming) where
   harts_same [] = refl
   harts_same (h ∷ hs) = (λ i. hart_same h i ∷ harts_same hs i)
 
+  pub with_same : (sends : ℕ → ℕ) (x : Rank) → awake (rank_with names sends x) ≡ rank_with names sends (awake x)
+  with_same sends x = (λ i. record (rank_with names sends x) { harts = harts_same x.harts i })
+
   pub rank_same : (x : Rank) → awake (rank_by names x) ≡ rank_by names (awake x)
-  rank_same x = (λ i. record (rank_by names x) { harts = harts_same x.harts i })
+  rank_same = with_same (number_by names)
 
   pub ranks_awake : (x y : Rank) → AlikeRanks names x y → AlikeRanks names (awake x) (awake y)
   ranks_awake x y alike =

@@ -29,7 +29,7 @@ use Rattle.cl_schedule_laws.specs.Machines.{IsExchanged, IsReordered, Takes, at_
 use Rattle.cl_reduction_laws.specs.Patterns.{IsAllowed, pattern_of, pattern_of_ask}
 use Rattle.cl_reduction_laws.specs.Clusters.{IsGood, IsWithin, Search, State, awake_cluster, cluster_machine, posts_of, weight_in, weight_of}
 use Rattle.cl_reduction_laws.proofs.Awake.{clusters_awake}
-use Rattle.cl_reduction_laws.proofs.Naming.{below_if_named}
+use Rattle.cl_reduction_laws.proofs.Naming.{below_if_right}
 use Rattle.cl_reduction_laws.proofs.Good.{IsMade, IsOnly, IsOwn, at_start, goes_of, gone, good_after, grows_by, plans_of}
 use Rattle.cl_reduction_laws.proofs.Machine.{ask_itself, same_alike, same_itself, same_turns}
 use Rattle.cl_reduction_laws.proofs.First.{no_poll, polls_on}
@@ -249,7 +249,7 @@ module _ (search : Search) (r s : ℕ) (a b c : State search) (apart : s ≢ r) 
       calm = record {
         few = omega (arith, room);
         waits = (a.good).waits;
-        names = λ i x here. below_if_named (hub_of a.cluster.journal).board.lines x ((a.good).names i x here);
+        names = λ i x here. below_if_right (hub_of a.cluster.journal).board.lines x ((a.good).names i x here);
         boxes = (a.good).boxes;
       }
 

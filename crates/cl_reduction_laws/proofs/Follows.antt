@@ -10,7 +10,7 @@ use Rattle.rv_hart.specs.declared.state.Wait.TheVariants.{Post, Again}
 use Rattle.mp_types.specs.declared.requests.Request.{Request}
 use Rattle.mp_types.specs.declared.requests.Request.TheVariants as request
 use Rattle.mp_match.specs.Board.{Board}
-use Rattle.mp_alike_laws.specs.Renaming.{Renaming, request_by}
+use Rattle.mp_alike_laws.specs.Renaming.{Renaming, number_by, request_by}
 use Rattle.mp_source_laws.specs.Alike.{Wild}
 use Rattle.mp_source_laws.specs.Laws.{AsksWithin}
 use Rattle.cl_names_laws.specs.Named.{ask_by, mode_by}
@@ -32,8 +32,8 @@ use Rattle.cl_first_laws.proofs.Below.{likeness_law}
 use Rattle.cl_first_laws.proofs.Below.{asks_of_named, go_alike_law}
 use Rattle.cl_first_laws.specs.Laws.{Turn}
 use Rattle.cl_reduction_laws.specs.Patterns.{IsAllowed, pattern_of, pattern_of_ask, pattern_of_request}
-use Rattle.cl_reduction_laws.specs.Clusters.{IsWithin, Search, State, awake_cluster, may_be_named, weight_in, weight_of}
-use Rattle.cl_reduction_laws.proofs.Naming.{asks_of_live, named_inside}
+use Rattle.cl_reduction_laws.specs.Clusters.{IsWithin, Search, State, awake_cluster, may_be_awaited, weight_in, weight_of}
+use Rattle.cl_reduction_laws.proofs.Naming.{asks_of_live, awaited_inside}
 use Rattle.cl_reduction_laws.proofs.Awake.{clusters_awake, from_mapped, mapped}
 use Rattle.cl_reduction_laws.proofs.Good.{good_after}
 use Rattle.cl_reduction_laws.proofs.Machine.{asleep_twin, awake_twin, goes_too, same_alike, taken}
@@ -52,8 +52,8 @@ waits_alike : (names : Renaming) (hart : ℕ) (x y : Rank) → AlikeRanks names 
     → waits_on (doing y.site (part_of y hart)) ≡ waits_on (doing x.site (part_of x hart))
 waits_alike names hart x y alike =
     ap (λ (z : Rank). waits_on (doing z.site (part_of z hart))) alike.1
-    ∙ ap (λ p. waits_on (doing x.site p)) (part_named names x hart)
-    ∙ ap waits_on (doing_named names x.site (part_of x hart))
+    ∙ ap (λ p. waits_on (doing x.site p)) (part_named names (number_by names) x hart)
+    ∙ ap waits_on (doing_named names (number_by names) x.site (part_of x hart))
     ∙ waits_same names (doing x.site (part_of x hart))
 
 pattern_same : (names : Renaming) (w : Bool) (a : Ask) → pattern_of_ask w (ask_by names a) ≡ pattern_of_ask w a
@@ -131,7 +131,7 @@ module _ (names : Renaming) (hart : ℕ) (x y : Rank) (sx : StandsAtCall x hart)
   light_too =
       sym (unwoken (mode_of y hart)) ∙ ap (λ p. weight_in p.hart.mode) (sym (part_awake y hart))
       ∙ ap (λ (z : Rank). weight_in (mode_of z hart)) alike.1
-      ∙ ap (λ p. weight_in p.hart.mode) (part_named names (awake x) hart)
+      ∙ ap (λ p. weight_in p.hart.mode) (part_named names (number_by names) (awake x) hart)
       ∙ named (mode_of (awake x) hart)
       ∙ ap (λ p. weight_in p.hart.mode) (part_awake x hart) ∙ unwoken (mode_of x hart)
     where
@@ -214,8 +214,8 @@ module _ (search : Search) where
       go : (q : Ask) → asked x hart ≡ q → AskOfLive (awake_cluster a.cluster) q
       go (Ask.Hub q) is =
           asks_of_live board q
-          (asks_of_named (may_be_named board.lines) (length board.lines) (named_inside board.lines) x hart q
-          ((a.good).names r x here) is)
+          (asks_of_named (may_be_awaited board.lines) (length board.lines) (awaited_inside board.lines) x hart q
+          ((a.good).names r x here).awaits is)
       go Ask.Plain is = tt
       go Ask.Local is = tt
       go Ask.Held is = tt

@@ -42,8 +42,7 @@ use Rattle.cl_state.specs.Told.{told}
 use Rattle.cl_state_laws.specs.Awake.{HasNoBytes, StandsAtCall}
 use Rattle.cl_state_laws.specs.Vain.{waits_on}
 use Rattle.cl_state_laws.proofs.Wakes.{wake_law}
-use Rattle.cl_first_laws.specs.Below.{IsNamed, NamesOnly, TellsOnly}
-use Rattle.cl_first_laws.proofs.Below.{forgets, only}
+use Rattle.cl_first_laws.specs.Below.{IsNamed, TellsOnly}
 use Rattle.cl_trace.specs.declared.events.Kind.{Kind}
 use Rattle.cl_machine.specs.Boxes.{Box, box_number, with_made, with_taken}
 use Rattle.cl_machine.specs.Cluster.{Cluster}
@@ -59,9 +58,9 @@ use Rattle.cl_order_laws.proofs.Walks.{turn_posts, turn_posts_most}
 use Rattle.cl_first_laws.specs.Below.{AskWithin}
 use Rattle.cl_first_laws.specs.Laws.{Turn}
 use Rattle.cl_first_laws.proofs.Exchanges.{Called, call_of}
-use Rattle.cl_reduction_laws.specs.Clusters.{IsAtBox, IsGood, IsWithin, Search, may_be_named, posts_of}
+use Rattle.cl_reduction_laws.specs.Clusters.{IsAtBox, IsGood, IsWithin, NamesRightly, Search, may_be_awaited, posts_of, was_made}
 use Rattle.cl_reduction_laws.proofs.AtBoxes.{AtBox, Leaves, at_box, freed, misses, readied, stands_taken, took}
-use Rattle.cl_reduction_laws.proofs.Naming.{named_added, named_new, names_more}
+use Rattle.cl_reduction_laws.proofs.Naming.{Grows, awaited_new, grows_added, grows_same, made_new, rightly_more, rightly_sent, rightly_told}
 use Rattle.cl_reduction_laws.specs.Patterns.{IsAllowed, Patterns, pattern_of, pattern_of_ask, pattern_of_request}
 
 -- ---- the posts of a call
@@ -197,22 +196,22 @@ IsTold q = IsListed q
 
 -- what was posted last may be named, if it is no standard send
 new_named : (h : HubView) (p : Post) (n : ℕ) (lines : List Line) → is_standard (Some (record { post = p; partner = None })) ≡ false
-    → lines ≡ add h.board.lines p → next_number h.board ≡ n → IsNamed (may_be_named lines) n
+    → lines ≡ add h.board.lines p → next_number h.board ≡ n → IsNamed (may_be_awaited lines) n
 new_named h p n lines sync is at =
     let e : suc (length h.board.lines) ≡ n = (omega (arith, at)) in
-    subst (IsNamed (may_be_named lines)) e
-    (subst (λ ms. may_be_named ms (length h.board.lines) ≡ true) (sym is) (named_new h.board.lines p sync))
+    subst (IsNamed (may_be_awaited lines)) e
+    (subst (λ ms. may_be_awaited ms (length h.board.lines) ≡ true) (sym is) (awaited_new h.board.lines p sync))
 
 -- a claim that may be received may be named
 claim_named : (ms : List Line) (place : ℕ) (line : Line) (what : Selection) → slice_get ms place ≡ Some line
-    → line.post ≡ post.Claim what → may_be_named ms place ≡ true
+    → line.post ≡ post.Claim what → may_be_awaited ms place ≡ true
 claim_named ms place line what here claims =
     ap (λ o. is_some o && not (is_standard o)) here
     ∙ ap (λ p. not (is_standard (Some (record { post = p; partner = line.partner })))) claims
 
 -- a reply to such a call tells of a post that may be named
 pub told_named : (h : HubView) → Laid h → (r : ℕ) (q : Request) → IsTold q → (n : ℕ) (done : Bool)
-    → (outcome h r q).0 ≡ reply.Posted n done → IsNamed (may_be_named (outcome h r q).1.board.lines) n
+    → (outcome h r q).0 ≡ reply.Posted n done → IsNamed (may_be_awaited (outcome h r q).1.board.lines) n
 told_named h laid r (request.Send false comm dest tag bytes) is n done e = absurd is
 told_named h laid r (request.Send true comm dest tag bytes) is n done e =
     go (nat_lt (held_count h.board.bodies) 65536) e
@@ -227,7 +226,7 @@ told_named h laid r (request.Send true comm dest tag bytes) is n done e =
     made = (reply.Posted (next_number h.board) (is_done h.board s), with_board h (send_posted h.board s bytes))
 
     go : (b : Bool) → (cond b made full).0 ≡ reply.Posted n done
-        → IsNamed (may_be_named (cond b made full).1.board.lines) n
+        → IsNamed (may_be_awaited (cond b made full).1.board.lines) n
     go true e = new_named h (post.Send s) n _ refl refl (same_post _ _ _ _ e)
     go false e = absurd (cc)
 told_named h laid r (request.Recv false comm source tag) is n done e =
@@ -240,7 +239,7 @@ told_named h laid r (request.Recv true comm source tag) is n done e =
 
     go : (o : Option Message) (c : Board) → c.lines ≡ b.lines
         → (got_or h (reply.Posted (next_number h.board) false) (o, c)).0 ≡ reply.Posted n done
-        → IsNamed (may_be_named (got_or h (reply.Posted (next_number h.board) false) (o, c)).1.board.lines) n
+        → IsNamed (may_be_awaited (got_or h (reply.Posted (next_number h.board) false) (o, c)).1.board.lines) n
     go None c same e = new_named h (post.Receive (selecting r comm source tag)) n c.lines refl same (same_post _ _ _ _ e)
     go (Some m) c same e = absurd (cc)
 told_named h laid r (request.Collect k) is n done e = absurd (go (may_collect h r k) (collect h.board k).0 (collect h.board k).1 e)
@@ -289,12 +288,12 @@ told_named h laid r (request.Claimed now k) is n done e = go (may_receive h.clai
     got (Some m) c e = absurd (cc)
 
     go : (b : Bool) → may_receive h.claims r k ≡ b → (now : Bool) → (cond b (claimed_now fewer now k) bad).0 ≡ reply.Posted n done
-        → IsNamed (may_be_named (cond b (claimed_now fewer now k) bad).1.board.lines) n
+        → IsNamed (may_be_awaited (cond b (claimed_now fewer now k) bad).1.board.lines) n
     go true may true e = absurd (got (collect h.board k).0 (collect h.board k).1 e)
     go true may false e =
         let c = laid.owned r k may in
         let at : suc c.place ≡ n = (let same = same_post k n _ _ e in let its = c.numbered in omega (arith, same, its)) in
-        subst (IsNamed (may_be_named h.board.lines)) at (claim_named h.board.lines c.place c.line c.what c.here c.claims)
+        subst (IsNamed (may_be_awaited h.board.lines)) at (claim_named h.board.lines c.place c.line c.what c.here c.claims)
     go false may now e = absurd (cc)
 told_named h laid r (request.Init sends comm peer tag parts size) is n done e =
     absurd (go (setup_of r sends comm peer tag parts size) (peer_of h.sides (setup_of r sends comm peer tag parts size)) e)
@@ -322,7 +321,7 @@ told_named h laid r (request.Cut link) is n done e =
 
 -- so do they all
 pub tells_named : (h : HubView) → Laid h → (r : ℕ) (q : Request) → IsTold q → (x : Reply) → (outcome h r q).0 ≡ x
-    → TellsOnly (may_be_named (outcome h r q).1.board.lines) (answer.Reply x)
+    → TellsOnly (may_be_awaited (outcome h r q).1.board.lines) (answer.Reply x)
 tells_named h laid r q told (reply.Posted n done) is = told_named h laid r q told n done is
 tells_named h laid r q told (reply.Code c) is = tt
 tells_named h laid r q told (reply.Got m) is = tt
@@ -334,29 +333,27 @@ tells_named h laid r q told (reply.AllGot gots) is = tt
 tells_named h laid r q told (reply.Link link) is = tt
 tells_named h laid r q told (reply.Cut parts size) is = tt
 
--- posts that may be named may be so afterwards
-pub named_after : (h : HubView) (r : ℕ) (q : Request) → IsListed q → (place : ℕ) → may_be_named h.board.lines place ≡ true
-    → may_be_named (outcome h r q).1.board.lines place ≡ true
-named_after h r q listed place named = go (makes h r q listed)
+-- posts that were made or awaited are so afterwards
+pub grows_after : (h : HubView) (r : ℕ) (q : Request) → IsListed q → Grows h.board.lines (outcome h r q).1.board.lines
+grows_after h r q listed = go (makes h r q listed)
   where
-    go : Makes h r q (outcome h r q).1 → may_be_named (outcome h r q).1.board.lines place ≡ true
-    go (nothing same) = ap (λ ms. may_be_named ms place) same ∙ named
-    go (a_send s same) = ap (λ ms. may_be_named ms place) same ∙ named_added h.board.lines (post.Send s) place named
-    go (a_receive now comm source tag is same) =
-        ap (λ ms. may_be_named ms place) same
-        ∙ named_added h.board.lines (post.Receive (selecting r comm source tag)) place named
-    go (a_claim what same) = ap (λ ms. may_be_named ms place) same ∙ named_added h.board.lines (post.Claim what) place named
+    one_more : (p : Post) → (outcome h r q).1.board.lines ≡ add h.board.lines p
+        → Grows h.board.lines (outcome h r q).1.board.lines
+    one_more p same = subst (Grows h.board.lines) (sym same) (grows_added h.board.lines p)
 
--- a rank that asks so names such posts alone once it is told the reply
+    go : Makes h r q (outcome h r q).1 → Grows h.board.lines (outcome h r q).1.board.lines
+    go (nothing same) = grows_same h.board.lines (outcome h r q).1.board.lines same
+    go (a_send s same) = one_more (post.Send s) same
+    go (a_receive now comm source tag is same) = one_more (post.Receive (selecting r comm source tag)) same
+    go (a_claim what same) = one_more (post.Claim what) same
+
+-- a rank that asks so names posts rightly once it is told the reply
 pub names_told : (h : HubView) → Laid h → (r : ℕ) (q : Request) → IsListed q → (rank : Rank) (hart stamp : ℕ) → asked rank hart ≡ Ask.Hub q
-    → NamesOnly (may_be_named h.board.lines) rank
-    → NamesOnly (may_be_named (outcome h r q).1.board.lines) (told rank hart (answer.Reply (outcome h r q).0) stamp)
-names_told h laid r (request.Send false comm dest tag bytes) listed rank hart stamp asks only_named =
-    names_more h.board.lines (outcome h r q).1.board.lines _ (named_after h r q listed) (go (nat_lt (held_count h.board.bodies) 65536))
+    → NamesRightly h.board.lines rank
+    → NamesRightly (outcome h r q).1.board.lines (told rank hart (answer.Reply (outcome h r q).0) stamp)
+names_told h laid r (request.Send false comm dest tag bytes) listed rank hart stamp asks right =
+    go (nat_lt (held_count h.board.bodies) 65536)
   where
-    q : Request
-    q = request.Send false comm dest tag bytes
-
     s : Sent
     s = sending r false comm dest tag bytes
 
@@ -366,51 +363,56 @@ names_told h laid r (request.Send false comm dest tag bytes) listed rank hart st
     made : Reply × HubView
     made = (reply.Posted (next_number h.board) (is_done h.board s), with_board h (send_posted h.board s bytes))
 
-    go : (b : Bool) → NamesOnly (may_be_named h.board.lines) (told rank hart (answer.Reply (cond b made full).0) stamp)
-    go true = forgets (may_be_named h.board.lines) rank hart comm dest tag bytes (next_number h.board) stamp asks only_named
+    go : (b : Bool)
+        → NamesRightly (cond b made full).1.board.lines (told rank hart (answer.Reply (cond b made full).0) stamp)
+    go true =
+        let e : suc (length h.board.lines) ≡ next_number h.board = (omega arith) in
+        rightly_sent h.board.lines (add h.board.lines (post.Send s)) rank hart comm dest tag bytes (next_number h.board) stamp
+        asks (grows_added h.board.lines (post.Send s)) right
+        (subst (IsNamed (was_made (add h.board.lines (post.Send s)))) e (made_new h.board.lines (post.Send s)))
     go false =
-        only (may_be_named h.board.lines) (may_be_named h.board.lines) rank hart (answer.Reply (reply.Code code.Full)) stamp
-        (λ place named. named) only_named tt
-names_told h laid r (request.Send true comm dest tag bytes) listed rank hart stamp asks only_named =
+        rightly_told h.board.lines h.board.lines rank hart (answer.Reply (reply.Code code.Full)) stamp
+        (grows_same h.board.lines h.board.lines refl) right tt
+names_told h laid r (request.Send true comm dest tag bytes) listed rank hart stamp asks right =
     let q = request.Send true comm dest tag bytes in
-    only (may_be_named h.board.lines) (may_be_named (outcome h r q).1.board.lines) rank hart (answer.Reply (outcome h r q).0) stamp
-    (named_after h r q listed) only_named (tells_named h laid r q tt (outcome h r q).0 refl)
-names_told h laid r (request.Recv now comm source tag) listed rank hart stamp asks only_named =
+    rightly_told h.board.lines (outcome h r q).1.board.lines rank hart (answer.Reply (outcome h r q).0) stamp
+    (grows_after h r q listed) right (tells_named h laid r q tt (outcome h r q).0 refl)
+names_told h laid r (request.Recv now comm source tag) listed rank hart stamp asks right =
     let q = request.Recv now comm source tag in
-    only (may_be_named h.board.lines) (may_be_named (outcome h r q).1.board.lines) rank hart (answer.Reply (outcome h r q).0) stamp
-    (named_after h r q listed) only_named (tells_named h laid r q tt (outcome h r q).0 refl)
-names_told h laid r (request.Collect n) listed rank hart stamp asks only_named =
+    rightly_told h.board.lines (outcome h r q).1.board.lines rank hart (answer.Reply (outcome h r q).0) stamp
+    (grows_after h r q listed) right (tells_named h laid r q tt (outcome h r q).0 refl)
+names_told h laid r (request.Collect n) listed rank hart stamp asks right =
     let q = request.Collect n in
-    only (may_be_named h.board.lines) (may_be_named (outcome h r q).1.board.lines) rank hart (answer.Reply (outcome h r q).0) stamp
-    (named_after h r q listed) only_named (tells_named h laid r q tt (outcome h r q).0 refl)
-names_told h laid r (request.Finished n) listed rank hart stamp asks only_named =
+    rightly_told h.board.lines (outcome h r q).1.board.lines rank hart (answer.Reply (outcome h r q).0) stamp
+    (grows_after h r q listed) right (tells_named h laid r q tt (outcome h r q).0 refl)
+names_told h laid r (request.Finished n) listed rank hart stamp asks right =
     let q = request.Finished n in
-    only (may_be_named h.board.lines) (may_be_named (outcome h r q).1.board.lines) rank hart (answer.Reply (outcome h r q).0) stamp
-    (named_after h r q listed) only_named (tells_named h laid r q tt (outcome h r q).0 refl)
-names_told h laid r (request.All ns) listed rank hart stamp asks only_named =
+    rightly_told h.board.lines (outcome h r q).1.board.lines rank hart (answer.Reply (outcome h r q).0) stamp
+    (grows_after h r q listed) right (tells_named h laid r q tt (outcome h r q).0 refl)
+names_told h laid r (request.All ns) listed rank hart stamp asks right =
     let q = request.All ns in
-    only (may_be_named h.board.lines) (may_be_named (outcome h r q).1.board.lines) rank hart (answer.Reply (outcome h r q).0) stamp
-    (named_after h r q listed) only_named (tells_named h laid r q tt (outcome h r q).0 refl)
-names_told h laid r (request.Probe comm source tag) listed rank hart stamp asks only_named =
+    rightly_told h.board.lines (outcome h r q).1.board.lines rank hart (answer.Reply (outcome h r q).0) stamp
+    (grows_after h r q listed) right (tells_named h laid r q tt (outcome h r q).0 refl)
+names_told h laid r (request.Probe comm source tag) listed rank hart stamp asks right =
     let q = request.Probe comm source tag in
-    only (may_be_named h.board.lines) (may_be_named (outcome h r q).1.board.lines) rank hart (answer.Reply (outcome h r q).0) stamp
-    (named_after h r q listed) only_named (tells_named h laid r q tt (outcome h r q).0 refl)
-names_told h laid r (request.Claim comm source tag) listed rank hart stamp asks only_named =
+    rightly_told h.board.lines (outcome h r q).1.board.lines rank hart (answer.Reply (outcome h r q).0) stamp
+    (grows_after h r q listed) right (tells_named h laid r q tt (outcome h r q).0 refl)
+names_told h laid r (request.Claim comm source tag) listed rank hart stamp asks right =
     let q = request.Claim comm source tag in
-    only (may_be_named h.board.lines) (may_be_named (outcome h r q).1.board.lines) rank hart (answer.Reply (outcome h r q).0) stamp
-    (named_after h r q listed) only_named (tells_named h laid r q tt (outcome h r q).0 refl)
-names_told h laid r (request.Claimed now n) listed rank hart stamp asks only_named =
+    rightly_told h.board.lines (outcome h r q).1.board.lines rank hart (answer.Reply (outcome h r q).0) stamp
+    (grows_after h r q listed) right (tells_named h laid r q tt (outcome h r q).0 refl)
+names_told h laid r (request.Claimed now n) listed rank hart stamp asks right =
     let q = request.Claimed now n in
-    only (may_be_named h.board.lines) (may_be_named (outcome h r q).1.board.lines) rank hart (answer.Reply (outcome h r q).0) stamp
-    (named_after h r q listed) only_named (tells_named h laid r q tt (outcome h r q).0 refl)
-names_told h laid r (request.Init sends comm peer tag parts size) listed rank hart stamp asks only_named =
+    rightly_told h.board.lines (outcome h r q).1.board.lines rank hart (answer.Reply (outcome h r q).0) stamp
+    (grows_after h r q listed) right (tells_named h laid r q tt (outcome h r q).0 refl)
+names_told h laid r (request.Init sends comm peer tag parts size) listed rank hart stamp asks right =
     let q = request.Init sends comm peer tag parts size in
-    only (may_be_named h.board.lines) (may_be_named (outcome h r q).1.board.lines) rank hart (answer.Reply (outcome h r q).0) stamp
-    (named_after h r q listed) only_named (tells_named h laid r q tt (outcome h r q).0 refl)
-names_told h laid r (request.Cut link) listed rank hart stamp asks only_named =
+    rightly_told h.board.lines (outcome h r q).1.board.lines rank hart (answer.Reply (outcome h r q).0) stamp
+    (grows_after h r q listed) right (tells_named h laid r q tt (outcome h r q).0 refl)
+names_told h laid r (request.Cut link) listed rank hart stamp asks right =
     let q = request.Cut link in
-    only (may_be_named h.board.lines) (may_be_named (outcome h r q).1.board.lines) rank hart (answer.Reply (outcome h r q).0) stamp
-    (named_after h r q listed) only_named (tells_named h laid r q tt (outcome h r q).0 refl)
+    rightly_told h.board.lines (outcome h r q).1.board.lines rank hart (answer.Reply (outcome h r q).0) stamp
+    (grows_after h r q listed) right (tells_named h laid r q tt (outcome h r q).0 refl)
 
 pub listed_of : (patterns : Patterns) (r : ℕ) (w : Bool) (q : Request) → IsAllowed patterns r (pattern_of_request w q) → IsListed q
 listed_of patterns r w (request.Send sync comm dest tag bytes) is = tt
@@ -568,14 +570,13 @@ module _ (search : Search) (r : ℕ) (c new : Cluster) (rank : Rank) (there : sl
       (made_within search.patterns r (search.harts r) rank (within rank there).0) turn)
     where
       names_after : (a : Answer) (stamp : ℕ) → new.ranks ≡ slice_set c.ranks r (told rank (search.harts r) a stamp)
-          → ((place : ℕ) → may_be_named (hub_of c.journal).board.lines place ≡ true
-          → may_be_named (hub_of new.journal).board.lines place ≡ true)
-          → NamesOnly (may_be_named (hub_of new.journal).board.lines) (told rank (search.harts r) a stamp)
+          → Grows (hub_of c.journal).board.lines (hub_of new.journal).board.lines
+          → NamesRightly (hub_of new.journal).board.lines (told rank (search.harts r) a stamp)
           → (s : ℕ) (x : Rank) → slice_get new.ranks s ≡ Some x
-          → NamesOnly (may_be_named (hub_of new.journal).board.lines) x
+          → NamesRightly (hub_of new.journal).board.lines x
       names_after a stamp ranks grow mine =
-          each_rank (λ s x. NamesOnly (may_be_named (hub_of new.journal).board.lines) x) a stamp ranks mine
-          (λ s x here. names_more (hub_of c.journal).board.lines (hub_of new.journal).board.lines x grow (good.names s x here))
+          each_rank (λ s x. NamesRightly (hub_of new.journal).board.lines x) a stamp ranks mine
+          (λ s x here. rightly_more (hub_of c.journal).board.lines (hub_of new.journal).board.lines x grow (good.names s x here))
 
       stands_after : (a : Answer) (stamp : ℕ) → new.ranks ≡ slice_set c.ranks r (told rank (search.harts r) a stamp)
           → HasNoBytes a
@@ -587,17 +588,19 @@ module _ (search : Search) (r : ℕ) (c new : Cluster) (rank : Rank) (there : sl
 
       -- a turn at a box
       left : (a : Answer) (stamp : ℕ) (now : List Box) → (l : Leaves r (search.harts r) c new rank a stamp now)
-          → TellsOnly (may_be_named (hub_of c.journal).board.lines) a → AreSound now
+          → TellsOnly (may_be_awaited (hub_of c.journal).board.lines) a → AreSound now
           → ((s : ℕ) (x : Rank) → slice_get new.ranks s ≡ Some x → StandsAtCall x (search.harts s))
           → IsGood search new
       left a stamp now l tells sound stands = record {
         waits = subst (λ j. WaitsWithin search.wild (hub_of j)) (sym l.journal) good.waits;
         names = names_after a stamp l.ranks
-            (λ place named. ap (λ j. may_be_named (hub_of j).board.lines place) l.journal ∙ named)
-            (subst (λ j. NamesOnly (may_be_named (hub_of j).board.lines) (told rank (search.harts r) a stamp))
+            (grows_same (hub_of c.journal).board.lines (hub_of new.journal).board.lines
+            (ap (λ j. (hub_of j).board.lines) l.journal))
+            (subst (λ j. NamesRightly (hub_of j).board.lines (told rank (search.harts r) a stamp))
             (sym l.journal)
-            (only (may_be_named (hub_of c.journal).board.lines) (may_be_named (hub_of c.journal).board.lines) rank
-            (search.harts r) a stamp (λ place named. named) (good.names r rank there) tells));
+            (rightly_told (hub_of c.journal).board.lines (hub_of c.journal).board.lines rank
+            (search.harts r) a stamp (grows_same (hub_of c.journal).board.lines (hub_of c.journal).board.lines refl)
+            (good.names r rank there) tells));
         boxes = subst AreSound (sym l.boxes) sound;
         stands = stands;
       }
@@ -606,11 +609,13 @@ module _ (search : Search) (r : ℕ) (c new : Cluster) (rank : Rank) (there : sl
       go (alone stamp own ranks journal boxes) = record {
         waits = subst (λ j. WaitsWithin search.wild (hub_of j)) (sym journal) good.waits;
         names = names_after answer.Alone stamp ranks
-            (λ place named. ap (λ j. may_be_named (hub_of j).board.lines place) journal ∙ named)
-            (subst (λ j. NamesOnly (may_be_named (hub_of j).board.lines) (told rank (search.harts r) answer.Alone stamp))
+            (grows_same (hub_of c.journal).board.lines (hub_of new.journal).board.lines
+            (ap (λ j. (hub_of j).board.lines) journal))
+            (subst (λ j. NamesRightly (hub_of j).board.lines (told rank (search.harts r) answer.Alone stamp))
             (sym journal)
-            (only (may_be_named (hub_of c.journal).board.lines) (may_be_named (hub_of c.journal).board.lines) rank
-            (search.harts r) answer.Alone stamp (λ place named. named) (good.names r rank there) tt));
+            (rightly_told (hub_of c.journal).board.lines (hub_of c.journal).board.lines rank
+            (search.harts r) answer.Alone stamp
+            (grows_same (hub_of c.journal).board.lines (hub_of c.journal).board.lines refl) (good.names r rank there) tt));
         boxes = subst AreSound (sym boxes) good.boxes;
         stands = stands_after answer.Alone stamp ranks tt;
       }
@@ -624,9 +629,9 @@ module _ (search : Search) (r : ℕ) (c new : Cluster) (rank : Rank) (there : sl
                 (waits_after search.wild (hub_of c.journal) good.waits r q listed
                 (subst (AskWithin search.wild r) asks (within rank there).1));
             names = names_after (answer.Reply o.0) k.stamp k.ranks
-                (λ place named. ap (λ (h : HubView). may_be_named h.board.lines place) k.hubs
-                ∙ named_after (hub_of c.journal) r q listed place named)
-                (subst (λ (h : HubView). NamesOnly (may_be_named h.board.lines)
+                (subst (λ (h : HubView). Grows (hub_of c.journal).board.lines h.board.lines) (sym k.hubs)
+                (grows_after (hub_of c.journal) r q listed))
+                (subst (λ (h : HubView). NamesRightly h.board.lines
                 (told rank (search.harts r) (answer.Reply o.0) k.stamp)) (sym k.hubs)
                 (names_told (hub_of c.journal) (laid_after c.journal.links (calls_of c.journal.entries)) r q listed rank (search.harts r)
                 k.stamp asks (good.names r rank there)));

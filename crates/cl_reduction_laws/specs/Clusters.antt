@@ -15,7 +15,7 @@ use Rattle.cl_state.specs.Asked.{asked, doing, part_of}
 use Rattle.cl_state.specs.Rank.{Rank}
 use Rattle.cl_state_laws.specs.Awake.{StandsAtCall, awake}
 use Rattle.cl_state_laws.specs.Vain.{IsStopped, mode_of, waits_on}
-use Rattle.cl_first_laws.specs.Below.{NamesOnly}
+use Rattle.cl_first_laws.specs.Below.{AwaitsOnly, NamesOnly}
 use Rattle.cl_machine.specs.Boxes.{Box, Holds, IsEmpty, box_number}
 use Rattle.cl_machine.specs.Cluster.{Cluster}
 use Rattle.cl_machine.specs.Journal.{reply_in}
@@ -37,7 +37,7 @@ pub record Search : Type 0 where
   pub patterns : Patterns
   -- the one hart of each rank that takes turns
   pub harts : ℕ → ℕ
-  -- whether a standard send may wait for its receive, so that a rank may rest behind it
+  -- whether a standard send may wait for its receive, so that its rank may rest
   pub may_wait : Bool
 
 -- ---- states
@@ -45,17 +45,25 @@ pub record Search : Type 0 where
 abbrev pub posts_of : Cluster → ℕ
 posts_of c = length (hub_of c.journal).board.lines
 
--- a rank may have to name the post at the place: it was made, and is no standard send. Of such a send its rank is told at
--- once that it is complete, so it forgets the number
-abbrev pub may_be_named : List Line → ℕ → Bool
-may_be_named lines place = is_some (slice_get lines place) && not (is_standard (slice_get lines place))
+-- a post was made at the place
+abbrev pub was_made : List Line → ℕ → Bool
+was_made lines place = is_some (slice_get lines place)
 
--- receives of any source wait only where those may be made, ranks name only posts that they may have to name, no box has
--- two things, and a hart that is to make its call anew stands at it. Each holds of the loaded cluster, and lasts
+-- and a rank may have to ask about it: it is no standard send, of which its rank is told at once that it is complete
+abbrev pub may_be_awaited : List Line → ℕ → Bool
+may_be_awaited lines place = was_made lines place && not (is_standard (slice_get lines place))
+
+-- the rank names only posts that were made, and awaits only such as it may have to ask about
+pub record NamesRightly (lines : List Line) (rank : Rank) : Type 0 where
+  pub names : NamesOnly (was_made lines) rank
+  pub awaits : AwaitsOnly (may_be_awaited lines) rank
+
+-- receives of any source wait only where those may be made, ranks name only posts that were made, and await no standard send,
+-- no box has two things, and a hart that is to make its call anew stands at it. Each holds of the loaded cluster, and lasts
 pub record IsGood (search : Search) (c : Cluster) : Type 0 where
   pub waits : WaitsWithin search.wild (hub_of c.journal)
   pub names : (r : ℕ) (rank : Rank) → slice_get c.ranks r ≡ Some rank
-      → NamesOnly (may_be_named (hub_of c.journal).board.lines) rank
+      → NamesRightly (hub_of c.journal).board.lines rank
   pub boxes : (i : ℕ) (box : Box) → slice_get c.boxes i ≡ Some box → AlikeBoxes box box
   pub stands : (r : ℕ) (rank : Rank) → slice_get c.ranks r ≡ Some rank → StandsAtCall rank (search.harts r)
 
@@ -138,7 +146,7 @@ pub data GoesFirst (search : Search) (c : Cluster) (r : ℕ) (rank : Rank) : Typ
       → ((s : ℕ) (other : Rank) → s ≢ r → slice_get c.ranks s ≡ Some other → IsStill c s other (search.harts s))
       → GoesFirst search c r rank
 
--- the rank doesn't rest behind a standard send, if those may wait for their receives: a rank that rests may not go first, for
+-- the rank doesn't rest, if standard sends may wait for their receives: a rank that rests may not go first, for
 -- it may stay where it is for good
 abbrev pub GoesAnyway : Search → Cluster → ℕ → Type 0
 GoesAnyway search c r = search.may_wait ≡ true → rests c r (search.harts r) ≡ false

@@ -17,6 +17,7 @@ use Rattle.cl_machine.specs.Journal.{reply_in}
 use Rattle.cl_order_laws.specs.Alike.{hub_of}
 use Rattle.cl_order_laws.specs.Closed.{Plans, WaitsInVain}
 use Rattle.cl_first_laws.specs.Below.{AreAlike}
+use Rattle.cl_rest_laws.specs.Rests.{rests}
 use Rattle.cl_reduction_laws.specs.Clusters.{Found, GoesAnyway, GoesFirst, IsWithin, Search, awake_cluster, posts_of}
 use Rattle.cl_reduction_laws.specs.Patterns.{Patterns, by_receiver, by_sender}
 
@@ -49,12 +50,25 @@ abbrev pub FindsClaim : Cluster → ℕ → Ask → Type 0
 FindsClaim c r (Ask.Hub (request.Claim comm source tag)) = reply_in c.journal r (request.Claim comm source tag) ≢ NotYet
 FindsClaim c r _ = ⊥
 
+-- nothing is asked of the hub, or what isn't there still
+abbrev pub IsThere : Cluster → ℕ → Ask → Type 0
+IsThere c r Ask.Local = Unit {0}
+IsThere c r (Ask.Hub q) = reply_in c.journal r q ≢ NotYet
+IsThere c r _ = ⊥
+
+-- the rank rests, and all else that it waits for is there
+abbrev pub RestsOnly : Search → Cluster → ℕ → Rank → Type 0
+RestsOnly search c r rank =
+    (rests c r (search.harts r) ≡ true) × IsThere c r (asked rank (search.harts r))
+
 -- where the rank's hart makes a call that is made anew until there is something, it waits, and in vain. Only a claim may find
--- its message there: it isn't made at once, because the number that it tells counts all posts before it
+-- its message there: it isn't made at once, because the number that it tells counts all posts before it. And only a call that
+-- completes a standard send may go on, which may wait
 abbrev pub RestsIfWaiting : Search → Cluster → ℕ → Rank → Type 0
 RestsIfWaiting search c r rank =
     waits_on (doing rank.site (part_of rank (search.harts r))) ≡ true
-    → WaitsInVain c r rank (search.harts r) ⊎ FindsClaim c r (asked rank (search.harts r))
+    → WaitsInVain c r rank (search.harts r)
+    ⊎ (FindsClaim c r (asked rank (search.harts r)) ⊎ RestsOnly search c r rank)
 
 -- who may be the sender on a link is its sender, and who may be the receiver its receiver
 pub record AreOnSides (links : List Link) (patterns : Patterns) : Type 0 where
@@ -62,7 +76,7 @@ pub record AreOnSides (links : List Link) (patterns : Patterns) : Type 0 where
   pub receivers : (r link : ℕ) → patterns r (by_receiver link) ≡ true → is_receiver links r link ≡ true
 
 -- what is known of each: what ranks ask is within the patterns, receives of any source wait only where those may be made, no
--- send is refused, who waits waits in vain or finds what it claims, a hart that is to make its call anew stands at it, and ranks are on their
+-- send is refused, who waits waits in vain, finds what it claims or rests, a hart that is to make its call anew stands at it, and ranks are on their
 -- own sides of links
 pub record IsFit (search : Search) (c : Cluster) : Type 0 where
   pub within : AllWithin search c

@@ -31,15 +31,15 @@ use Rattle.cl_deadlock_laws.proofs.Others.{in_vain_still}
 use Rattle.cl_deadlock_laws.proofs.Own.{Passed, hub_of, passed}
 use Rattle.cl_deadlock_laws.proofs.Reached.{Comes, comes_on, comes_reached, deed_of, same_links}
 use Rattle.cl_first_laws.specs.Laws.{Turn}
-use Rattle.cl_rest_laws.specs.Rests.{receives_from, rests, rests_if, spelled}
+use Rattle.cl_rest_laws.specs.Rests.{rests, rests_if}
 use Rattle.cl_rest_laws.specs.Buffering.{AreHeldUp, RestsAmong}
 use Rattle.cl_rest_laws.specs.Laws.{BufferingLaw, IsPatientRun}
-use Rattle.cl_rest_laws.proofs.Resting.{rest_law}
+use Rattle.cl_rest_laws.proofs.Resting.{is_to, rest_law}
 
 module _ (ranks : List ℕ) where
   abbrev IsHeldUp : Cluster → ℕ → Rank → ℕ → Type 0
   IsHeldUp c r rank hart =
-      IsStopped (mode_of rank hart) ⊎ (IsStuckHart ranks c r rank hart ⊎ RestsAmong ranks c r rank hart)
+      IsStopped (mode_of rank hart) ⊎ (IsStuckHart ranks c r rank hart ⊎ RestsAmong ranks c r hart)
 
   record Kept (old new : Cluster) : Type 0 where
     held : AreHeldUp ranks new
@@ -78,10 +78,11 @@ module _ (ranks : List ℕ) where
         }))
     still_held r rank hart clock before after (inr (inr is)) =
         inr (inr (record {
-          rests_there = ap (λ o. rests_if (hub_of new.journal) r o hart) after
-              ∙ ap (λ h. rests_if h r (Some rank) hart) hub
-              ∙ sym (ap (λ o. rests_if (hub_of old.journal) r o hart) before) ∙ is.rests_there;
-          only = is.only;
+          receiver = is.receiver;
+          among = is.among;
+          rests_there = ap (λ o. rests_if (is_to is.receiver) (hub_of new.journal) r o hart) after
+              ∙ ap (λ h. rests_if (is_to is.receiver) h r (Some rank) hart) hub
+              ∙ sym (ap (λ o. rests_if (is_to is.receiver) (hub_of old.journal) r o hart) before) ∙ is.rests_there;
         }))
 
   -- ---- a turn of one of them
@@ -150,14 +151,6 @@ module _ (ranks : List ℕ) where
       stays r among =
           ap (λ xs. slice_get xs r) (goes.0).4 ∙ get-set_other old.ranks d.rank r (goes.0).1 (differs r among)
 
-      -- whom the send of one of them is for is one of them
-      no_receive : (x : Rank) (hart : ℕ) → OnlyOf (is_among ranks) (receives_from x.site (spelled x hart))
-          → receives_from x.site (spelled x hart) d.rank ≡ false
-      no_receive x hart only = elim (cases_Bool (receives_from x.site (spelled x hart) d.rank)) [
-        | inl to ↦ (let inside : is_among ranks d.rank ≡ true = only d.rank to in absurd (cc))
-        | inr away ↦ away
-      ]
-
       still : (r : ℕ) (x : Rank) (hart : ℕ) → IsTrue (is_among ranks r) → slice_get old.ranks r ≡ Some x
           → IsHeldUp old r x hart → IsHeldUp new r x hart
       still r x hart among there (inl is) = inl is
@@ -173,9 +166,10 @@ module _ (ranks : List ℕ) where
           }))
       still r x hart among there (inr (inr is)) =
           inr (inr (record {
-            rests_there = (rest_law.stays) old new r d.rank d.hart hart x (differs r among) there (no_receive x hart is.only)
-                turn is.rests_there;
-            only = is.only;
+            receiver = is.receiver;
+            among = is.among;
+            rests_there = (rest_law.stays) old new r d.rank d.hart hart is.receiver (differs r among)
+                (differs is.receiver is.among) turn is.rests_there;
           }))
 
   -- ---- any turn of a hart that doesn't rest
@@ -208,7 +202,8 @@ module _ (ranks : List ℕ) where
           → IsStopped (mode_of s d.hart) ⊎ IsStuckHart ranks old d.rank s d.hart
       no_rest d s awake (inl is) = inl is
       no_rest d s awake (inr (inl is)) = inr is
-      no_rest d s awake (inr (inr is)) = (let e : true ≡ false = sym is.rests_there ∙ awake in absurd (cc))
+      no_rest d s awake (inr (inr is)) =
+          let e : true ≡ false = sym ((rest_law.each) old d.rank d.hart is.receiver is.rests_there) ∙ awake in absurd (cc)
 
   -- ---- one after the other
 

@@ -1,8 +1,8 @@
 -- The worked rows.
 use Rattle.std.specs.Prelude.{ℕ, zero, suc, ◌-◌, ◌<◌, ◌≡◌, ◌==◌, ◌⊎◌, IsTrue, true, false, List, [], ◌∷◌, length, Some}
 use Rattle.std.specs.List.{slice_get}
-use Rattle.std.proofs.Common.{refl, ap, subst, inl, inr, arith}
-use Rattle.std.proofs.lemmas.Bool.{eqb-true}
+use Rattle.std.proofs.Common.{refl, ap, subst, sym, inl, inr, arith}
+use Rattle.std.proofs.lemmas.Bool.{eqb-true, or_cases}
 use Rattle.std.proofs.lemmas.Option.{same_Some}
 use Rattle.rv_decode.specs.Decoded.{decoded}
 use Rattle.rv_hart.specs.Effect.{gives}
@@ -11,7 +11,6 @@ use Rattle.rv_hart.specs.Stepped.{stepped}
 use Rattle.mp_types.specs.declared.replies.Reply.TheVariants as reply
 use Rattle.mp_types.specs.declared.requests.Request.{Request}
 use Rattle.mp_types.specs.declared.requests.Request.TheVariants as request
-use Rattle.mp_wait_laws.specs.Waits.{OnlyOf}
 use Rattle.cl_trace.specs.declared.events.Kind.{Kind}
 use Rattle.cl_state.specs.declared.asking.Answer.{Answer}
 use Rattle.cl_state.specs.Asked.{asked, doing}
@@ -23,11 +22,12 @@ use Rattle.cl_machine.specs.Journal.{Journal, empty_journal, reply_in, with_entr
 use Rattle.cl_machine.specs.Worked.{step}
 use Rattle.cl_deadlock_laws.specs.Stuck.{AreStuck, IsStuckHart, is_among}
 use Rattle.cl_deadlock_laws.specs.Worked.{both, ended}
-use Rattle.cl_rest_laws.specs.Rests.{buffered_word, receives_from, rests, spelled}
+use Rattle.cl_rest_laws.specs.Rests.{buffered_word, rests_for}
 use Rattle.cl_rest_laws.specs.Buffering.{NeedBuffers, RestsAmong}
-use Rattle.cl_rest_laws.specs.Worked.{Claimed, IsRefused, OneAlone, OneGoesOn, ReceivePosted, ReceiveWaits, Received}
-use Rattle.cl_rest_laws.specs.Worked.{SaysBuffered, SaysOther, SendFirst, ToEnded, ToItself, Unreceived, WaitsInSsend}
-use Rattle.cl_rest_laws.specs.Worked.{improbe, irecv, recv, send, send_saying, ssend}
+use Rattle.cl_rest_laws.specs.Worked.{BothWait, Claimed, IsRefused, OneAlone, OneGoesOn, OneOfTwo, ReceivePosted, ReceiveWaits}
+use Rattle.cl_rest_laws.specs.Worked.{Received, ReceivedAtWait, SaysBuffered, SaysBufferedAtWait, SaysOther, SendFirst}
+use Rattle.cl_rest_laws.specs.Worked.{SyncAtWait, ToEnded, ToItself, Unreceived, UnreceivedAtWait, WaitsInSsend}
+use Rattle.cl_rest_laws.specs.Worked.{improbe, irecv, isend, isend_saying, isend_twice, issend, recv, send, send_saying, ssend}
 
 -- ---- two ranks with a hart each
 
@@ -60,15 +60,13 @@ module _ (ranks : List ℕ) (a b : Rank) (j : Journal) (one_a : length a.harts �
   abbrev IsHeldUp : ℕ → Rank → ℕ → Type 0
   IsHeldUp r rank hart =
       IsTrue (is_among ranks r)
-      → IsStopped (mode_of rank hart) ⊎ (IsStuckHart ranks two r rank hart ⊎ RestsAmong ranks two r rank hart)
+      → IsStopped (mode_of rank hart) ⊎ (IsStuckHart ranks two r rank hart ⊎ RestsAmong ranks two r hart)
 
-  -- the first rests, and what it sent is for one of them
-  first_rests : is_among ranks 0 ≡ true → OnlyOf (is_among ranks) (receives_from a.site (spelled a 0))
-      → rests two 0 0 ≡ true → IsHeldUp 1 b 0 → NeedBuffers ranks two
-  first_rests is only behind second = record {
+  -- the first rests until one of them receives
+  first_rests : is_among ranks 0 ≡ true → RestsAmong ranks two 0 0 → IsHeldUp 1 b 0 → NeedBuffers ranks two
+  first_rests is until second = record {
     held = λ r rank hart among here low.
-        of_both IsHeldUp (λ among. inr (inr (record { rests_there = behind; only = only }))) second r rank hart here low
-        among;
+        of_both IsHeldUp (λ among. inr (inr until)) second r rank hart here low among;
     some = record {
       r = 0;
       rank = a;
@@ -76,9 +74,16 @@ module _ (ranks : List ℕ) (a b : Rank) (j : Journal) (one_a : length a.harts �
       among = is;
       there = refl;
       inside = omega (arith, one_a);
-      rests_there = behind;
+      rests_there = until;
     };
   }
+
+-- nobody else is among one rank
+only_one : (r k : ℕ) → is_among (r ∷ []) k ≡ true → r ≡ k
+only_one r k its = elim (or_cases (r == k) false its) [
+  | inl same ↦ eqb-true r k same
+  | inr off ↦ absurd (cc)
+]
 
 -- a send is for one rank alone
 to_one : (ranks : List ℕ) (dest k : ℕ) → is_among ranks dest ≡ true → (dest == k) ≡ true → is_among ranks k ≡ true
@@ -240,8 +245,8 @@ send_first = (
   after_both,
   (_, first_send (send 1 0), (_, second_send, refl)),
   first_rests (0 ∷ 1 ∷ []) sent sent_back after_both.journal refl refl refl
-      (λ k to. to_one (0 ∷ 1 ∷ []) 1 k refl to) refl
-      (λ among. inr (inr (record { rests_there = refl; only = λ k to. to_one (0 ∷ 1 ∷ []) 0 k refl to }))),
+      (record { receiver = 1; among = refl; rests_there = refl })
+      (λ among. inr (inr (record { receiver = 0; among = refl; rests_there = refl }))),
 )
 
 pub one_goes_on : OneGoesOn
@@ -268,7 +273,10 @@ one_alone = (
   λ need. elim (need.held 0 sent 0 refl refl (omega arith)) [
     | inl stopped ↦ absurd stopped
     | inr (inl held) ↦ absurd held.patient.waits
-    | inr (inr behind) ↦ (let among : is_among (0 ∷ []) 1 ≡ true = behind.only 1 refl in absurd (cc))
+    | inr (inr behind) ↦
+        let no : false ≡ true =
+        subst (λ k. rests_for after_both 0 0 k ≡ true) (sym (only_one 0 behind.receiver behind.among)) behind.rests_there in
+        absurd (cc)
   ],
 )
 
@@ -288,7 +296,7 @@ to_itself = (
     refl,
   ),
   first_rests (0 ∷ []) (told (send 0 0) 0 (Answer.Reply (reply.Posted 1 true)) 9) (recv 1 0) _ refl refl refl
-      (λ k to. to_one (0 ∷ []) 0 k refl to) refl (λ among. absurd (cc)),
+      (record { receiver = 0; among = refl; rests_there = refl }) (λ among. absurd (cc)),
 )
 
 pub to_ended : ToEnded
@@ -297,7 +305,7 @@ to_ended = (
   _,
   (_, first_send (ended (recv 1 0)), refl),
   first_rests (0 ∷ 1 ∷ []) sent (ended (recv 1 0)) one_sent refl refl refl
-      (λ k to. to_one (0 ∷ 1 ∷ []) 1 k refl to) refl (λ among. inl tt),
+      (record { receiver = 1; among = refl; rests_there = refl }) (λ among. inl tt),
 )
 
 -- ---- a rank that waits by itself
@@ -320,4 +328,195 @@ waits_in_ssend = (
         }))
         (inl tt),
   ),
+)
+
+-- ---- ranks that are about to wait
+
+pub unreceived_at_wait : UnreceivedAtWait
+unfolding asked told doing reply_in returned stepped gives imm_result decoded
+unreceived_at_wait = (
+  _,
+  (
+    _,
+    (isend 0 1, refl, omega arith, omega arith, (message, refl, refl, refl, refl)),
+    (
+      _,
+      (_, refl, omega arith, omega arith, (refl, refl, refl)),
+      (
+        _,
+        (_, refl, omega arith, omega arith, (refl, refl, refl)),
+        (_, (_, refl, omega arith, omega arith, (refl, refl, refl)), refl),
+      ),
+    ),
+  ),
+  refl,
+)
+
+pub received_at_wait : ReceivedAtWait
+unfolding asked told doing reply_in returned received received_message stepped gives imm_result decoded
+received_at_wait = (
+  _,
+  (
+    _,
+    (isend 0 1, refl, omega arith, omega arith, (message, refl, refl, refl, refl)),
+    (
+      _,
+      (_, refl, omega arith, omega arith, (refl, refl, refl)),
+      (
+        _,
+        (_, refl, omega arith, omega arith, (refl, refl, refl)),
+        (
+          _,
+          (_, refl, omega arith, omega arith, (refl, refl, refl)),
+          (
+            _,
+            (recv 1 0, refl, omega arith, omega arith, (request.Recv true 0 (Some 0) (Some 7), refl, refl, refl, refl)),
+            refl,
+          ),
+        ),
+      ),
+    ),
+  ),
+  refl,
+)
+
+-- each at its WAIT
+abbrev behind_isend : Rank
+behind_isend = told (isend 0 1) 0 (Answer.Reply (reply.Posted 1 true)) 9
+
+abbrev at_wait : Rank
+at_wait = told (told (told behind_isend 0 Answer.Alone 10) 0 Answer.Alone 11) 0 Answer.Alone 12
+
+abbrev behind_other : Rank
+behind_other = told (isend 1 0) 0 (Answer.Reply (reply.Posted 2 true)) 10
+
+abbrev other_at_wait : Rank
+other_at_wait = told (told (told behind_other 0 Answer.Alone 11) 0 Answer.Alone 12) 0 Answer.Alone 13
+
+pub both_wait : BothWait
+unfolding asked told doing reply_in returned stepped gives imm_result decoded
+both_wait = (
+  record { ranks = at_wait ∷ other_at_wait ∷ []; journal = after_both.journal; boxes = [] },
+  (
+    _,
+    (isend 0 1, refl, omega arith, omega arith, (message, refl, refl, refl, refl)),
+    (
+      _,
+      (isend 1 0, refl, omega arith, omega arith, (request.Send false 0 0 7 (105 ∷ 10 ∷ []), refl, refl, refl, refl)),
+      (
+        _,
+        (_, refl, omega arith, omega arith, (refl, refl, refl)),
+        (
+          _,
+          (_, refl, omega arith, omega arith, (refl, refl, refl)),
+          (
+            _,
+            (_, refl, omega arith, omega arith, (refl, refl, refl)),
+            (
+              _,
+              (_, refl, omega arith, omega arith, (refl, refl, refl)),
+              (
+                _,
+                (_, refl, omega arith, omega arith, (refl, refl, refl)),
+                (_, (_, refl, omega arith, omega arith, (refl, refl, refl)), refl),
+              ),
+            ),
+          ),
+        ),
+      ),
+    ),
+  ),
+  first_rests (0 ∷ 1 ∷ []) at_wait other_at_wait after_both.journal refl refl refl
+      (record { receiver = 1; among = refl; rests_there = refl })
+      (λ among. inr (inr (record { receiver = 0; among = refl; rests_there = refl }))),
+)
+
+pub says_buffered_at_wait : SaysBufferedAtWait
+unfolding asked told doing reply_in returned stepped gives imm_result decoded
+says_buffered_at_wait = (
+  _,
+  (
+    _,
+    (isend_saying buffered_word 0 1, refl, omega arith, omega arith, (message, refl, refl, refl, refl)),
+    (
+      _,
+      (_, refl, omega arith, omega arith, (refl, refl, refl)),
+      (
+        _,
+        (_, refl, omega arith, omega arith, (refl, refl, refl)),
+        (_, (_, refl, omega arith, omega arith, (refl, refl, refl)), refl),
+      ),
+    ),
+  ),
+  refl,
+)
+
+pub one_of_two : OneOfTwo
+unfolding asked told doing reply_in returned received received_message stepped gives imm_result decoded
+one_of_two = (
+  _,
+  (
+    _,
+    (isend_twice 0 1, refl, omega arith, omega arith, (message, refl, refl, refl, refl)),
+    (
+      _,
+      (_, refl, omega arith, omega arith, (refl, refl, refl)),
+      (
+        _,
+        (_, refl, omega arith, omega arith, (refl, refl, refl)),
+        (
+          _,
+          (_, refl, omega arith, omega arith, (message, refl, refl, refl, refl)),
+          (
+            _,
+            (_, refl, omega arith, omega arith, (refl, refl, refl)),
+            (
+              _,
+              (_, refl, omega arith, omega arith, (refl, refl, refl)),
+              (
+                _,
+                (_, refl, omega arith, omega arith, (refl, refl, refl)),
+                (
+                  _,
+                  (_, refl, omega arith, omega arith, (refl, refl, refl)),
+                  (
+                    _,
+                    (
+                      recv 1 0,
+                      refl,
+                      omega arith,
+                      omega arith,
+                      (request.Recv true 0 (Some 0) (Some 7), refl, refl, refl, refl),
+                    ),
+                    refl,
+                  ),
+                ),
+              ),
+            ),
+          ),
+        ),
+      ),
+    ),
+  ),
+  refl,
+)
+
+pub sync_at_wait : SyncAtWait
+unfolding asked told doing reply_in returned stepped gives imm_result decoded
+sync_at_wait = (
+  _,
+  (
+    _,
+    (issend 0 1, refl, omega arith, omega arith, (request.Send true 0 1 7 (105 ∷ 10 ∷ []), refl, refl, refl, refl)),
+    (
+      _,
+      (_, refl, omega arith, omega arith, (refl, refl, refl)),
+      (
+        _,
+        (_, refl, omega arith, omega arith, (refl, refl, refl)),
+        (_, (_, refl, omega arith, omega arith, (refl, refl, refl)), refl),
+      ),
+    ),
+  ),
+  refl,
 )

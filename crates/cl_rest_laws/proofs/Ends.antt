@@ -31,8 +31,6 @@ use Rattle.mp_hub.proofs.Transfers.{links_on}
 use Rattle.mp_wait_laws.specs.Waits.{IsUpTo, OnlyOf, could_pair, could_send, is_from, sends_over}
 use Rattle.mp_wait_laws.proofs.Vain.{vain_law}
 use Rattle.cl_journal.specs.Journal.{calls_of}
-use Rattle.cl_calls.specs.declared.calls.Call.{Call as Spelled}
-use Rattle.cl_calls.specs.declared.calls.Call.TheVariants as call
 use Rattle.cl_calls.specs.declared.sites.Site.{Site}
 use Rattle.cl_calls.specs.Site.{member, members, position_of}
 use Rattle.cl_state.specs.declared.asking.Ask.{Ask}
@@ -54,10 +52,11 @@ use Rattle.cl_deadlock_laws.proofs.Reached.{Comes, comes_on, comes_reached, deed
 use Rattle.cl_order_laws.specs.Alike.{hub_of}
 use Rattle.cl_order_laws.specs.Closed.{IsEnd, IsInVain, Plans, WaitsInVain}
 use Rattle.cl_order_laws.proofs.Walks.{hub_entry}
-use Rattle.cl_rest_laws.specs.Rests.{receives_from, rests, spelled}
+use Rattle.cl_rest_laws.specs.Rests.{rests}
 use Rattle.cl_rest_laws.specs.Buffering.{NeedBuffers, RestsAmong}
 use Rattle.cl_rest_laws.specs.Ends.{IsEndWhereSendsWait}
 use Rattle.cl_rest_laws.specs.Laws.{EndLaw}
+use Rattle.cl_rest_laws.proofs.Resting.{rest_law, rests_on}
 use Rattle.cl_rest_laws.proofs.Targets.{AreTo, none_open, sends_to_rank, to_kept}
 
 -- ---- numbers below n
@@ -266,6 +265,17 @@ module _ (image : ImageParts) (is_image : IsImage image) where
     is_rank k low =
         among_below (length c.ranks) k (subst (λ m. k < m) (sym (to.came).count) low)
 
+    -- a rank that rests does so until a rank receives
+    rests_until : (r hart : ℕ) → rests c r hart ≡ true → RestsAmong (below (length c.ranks)) c r hart
+    rests_until r hart is =
+        let one = (rest_law.some) c r hart is in
+        let on = rests_on c r hart one.0 one.1 in
+        record {
+          receiver = one.0;
+          among = is_rank one.0 (subst (λ k. k < n) on.is_for (to.lines on.place on.line on.what on.there on.sends));
+          rests_there = one.1;
+        }
+
     module _ (r : ℕ) (site : Site) (its : site ≡ site_of image r) where
       from_member : (comm k : ℕ) → is_member site comm k ≡ true → everybody k ≡ true
       from_member comm k is =
@@ -351,13 +361,6 @@ module _ (image : ImageParts) (is_image : IsImage image) where
       in_vain ask.Held vain = tt
       in_vain _ vain = absurd vain
 
-      -- what a rank sent is received by a rank
-      received : (x : Spelled) → OnlyOf everybody (receives_from site x)
-      received (call.Send s) k is =
-          is_rank k (subst (λ x. x < n) (eqb-true (member site s.comm s.dest) k is)
-          (subst (λ (x : Site). member x s.comm s.dest < n) (sym its) (named_low r s.comm s.dest)))
-      received _ k is = absurd (cc)
-
 -- ---- the law
 
 module _ (image : ImageParts) (plans : Plans) (c : Cluster) (is_image : IsImage image) (single : image.harts ≡ 1)
@@ -365,7 +368,7 @@ module _ (image : ImageParts) (plans : Plans) (c : Cluster) (is_image : IsImage 
   abbrev Held : ℕ → Rank → ℕ → Type 0
   Held r rank hart =
       IsStopped (mode_of rank hart)
-      ⊎ (IsStuckHart (below (length c.ranks)) c r rank hart ⊎ RestsAmong (below (length c.ranks)) c r rank hart)
+      ⊎ (IsStuckHart (below (length c.ranks)) c r rank hart ⊎ RestsAmong (below (length c.ranks)) c r hart)
 
   one_hart : (r : ℕ) (rank : Rank) → slice_get c.ranks r ≡ Some rank → length rank.harts ≡ 1
   one_hart r rank there =
@@ -380,12 +383,7 @@ module _ (image : ImageParts) (plans : Plans) (c : Cluster) (is_image : IsImage 
         patient = is.0;
         in_vain = in_vain image is_image c to r rank.site (same_site image r came.0 rank came.1) (asked rank hart) is.1;
       }))
-  held_at r rank hart there (inr (inr is)) =
-      let came = (to.came).alone r rank there in
-      inr (inr (record {
-        rests_there = is;
-        only = received image is_image c to r rank.site (same_site image r came.0 rank came.1) (spelled rank hart);
-      }))
+  held_at r rank hart there (inr (inr is)) = inr (inr (rests_until image is_image c to r hart is))
 
   only_hart : (r : ℕ) (rank : Rank) (hart : ℕ) → slice_get c.ranks r ≡ Some rank → hart < length rank.harts
       → plans r 0 ≡ hart
@@ -407,7 +405,7 @@ module _ (image : ImageParts) (plans : Plans) (c : Cluster) (is_image : IsImage 
         among = among_below (length c.ranks) r low;
         there = here.2;
         inside = (let one = one_hart r here.0 here.2 in omega (arith, one));
-        rests_there = is;
+        rests_there = rests_until image is_image c to r 0 is;
       };
     }
     | inr past ↦ (let far = past.0 in absurd (omega (arith, low, far)))

@@ -12,7 +12,7 @@ use Rattle.mp_request.specs.Entries.{active_with, is_persistent, remainder}
 use Rattle.mp_request.specs.declared.entries.OpenRequest.{OpenRequest}
 use Rattle.mp_request.specs.declared.entries.Partitions.{Partitions}
 use Rattle.mp_request.specs.declared.entries.Progress.{Progress}
-use Rattle.mp_request.specs.declared.entries.Progress.TheVariants.{Finished, OnPost, InPhase}
+use Rattle.mp_request.specs.declared.entries.Progress.TheVariants.{Finished, Sent, OnPost, InPhase}
 use Rattle.mp_request.specs.declared.entries.State.TheVariants.{Inactive}
 use Rattle.mp_request.specs.declared.entries.Transfer.{Transfer}
 use Rattle.mp_request.specs.declared.entries.Transfer.TheVariants as transfer
@@ -60,7 +60,8 @@ use Rattle.cl_state.specs.Table.{begins, begins_phase, begun_outcome, completes,
 use Rattle.cl_state.specs.Told.{arrived, arrived_from, completed_all, cut_known, done, found, found_at, found_nothing, freed, freed_one, gathered_if, made_receiving, made_sending, made_side_at, not_yet, opened_at, part_readied, phase_begun, received, received_from, received_message, replied, seen_one, taken_one, told, told_row, visited}
 use Rattle.cl_state.specs.Transfers.{asked_transfer, claimed_of, receive_of, send_of}
 use Rattle.cl_post_laws.proofs.Posting.{BeginsTransfer, MakesPost, makes_post}
-use Rattle.cl_post_laws.proofs.Renamed.{by_row, row_at}
+use Rattle.cl_names_laws.proofs.Told.{row_at}
+use Rattle.cl_post_laws.proofs.Renamed.{by_row}
 
 module _ (n : ℕ) where
   -- a send is to one of the first n ranks
@@ -224,6 +225,7 @@ module _ (n : ℕ) where
 
     opens_begun : (why : Purpose) (t : Transfer) (p : Progress) → IsTo t → Opens (begun_outcome why t p)
     opens_begun purpose.Send t Finished fits = tt
+    opens_begun purpose.Send t (Sent post) fits = tt
     opens_begun purpose.Send t (OnPost post) fits = tt
     opens_begun purpose.Send t InPhase fits = tt
     opens_begun purpose.Open t p fits = fits

@@ -1,5 +1,5 @@
--- The ends of the machine in which each standard SEND waits for its receive or goes on, in any choice. Its runs are those of
--- the cluster machine: that a send waits only means that its rank takes no turn behind it.
+-- The ends of the machine in which each standard SEND, and each WAIT or WAITALL of one, waits for the receive or goes on, in any
+-- choice. Its runs are those of the cluster machine: that a send waits only means that its rank takes no turn behind it.
 use Rattle.std.specs.Prelude.{ℕ, ◌≡◌, ◌⊎◌, true, Some}
 use Rattle.std.specs.List.{slice_get}
 use Rattle.cl_state.specs.Rank.{Rank}
@@ -8,8 +8,9 @@ use Rattle.cl_machine.specs.Cluster.{Cluster}
 use Rattle.cl_order_laws.specs.Closed.{Plans, WaitsInVain}
 use Rattle.cl_rest_laws.specs.Rests.{rests}
 
--- nobody has to go on: each hart that its plan names is stopped, waits in vain, or rests behind a send, which may wait
+-- nobody has to go on: each hart that its plan names is stopped, waits in vain, or rests, and so may wait
 abbrev pub IsEndWhereSendsWait : Plans → Cluster → Type 0
 IsEndWhereSendsWait plans c =
     (r n : ℕ) (rank : Rank) → slice_get c.ranks r ≡ Some rank
-    → IsStopped (mode_of rank (plans r n)) ⊎ (WaitsInVain c r rank (plans r n) ⊎ (rests c r (plans r n) ≡ true))
+    → IsStopped (mode_of rank (plans r n))
+    ⊎ (WaitsInVain c r rank (plans r n) ⊎ (rests c r (plans r n) ≡ true))

@@ -1,31 +1,34 @@
 -- The laws of ranks that rest.
-use Rattle.std.specs.Prelude.{ℕ, ◌≡◌, ◌≢◌, ◌⊎◌, true, false, List, [], ◌∷◌, length, Some}
-use Rattle.std.specs.List.{slice_get}
+use Rattle.std.specs.Prelude.{ℕ, ◌≡◌, ◌≢◌, ◌⊎◌, true, false, List, [], ◌∷◌, length}
 use Rattle.rv_image_types.specs.Image.{IsImage}
 use Rattle.rv_image_types.specs.declared.images.ImageParts.{ImageParts}
 use Rattle.mp_source_laws.specs.Alike.{Wild}
-use Rattle.cl_state.specs.Rank.{Rank, below}
+use Rattle.cl_state.specs.Rank.{below}
 use Rattle.cl_machine.specs.Cluster.{Cluster, IsStep}
 use Rattle.cl_machine.specs.declared.steps.Step.{Step}
 use Rattle.cl_deadlock_laws.specs.Stuck.{AreAsTheyWere, IsReachable}
 use Rattle.cl_order_laws.specs.Closed.{IsEnd, Plans}
 use Rattle.cl_first_laws.specs.Below.{AreAlike}
 use Rattle.cl_first_laws.specs.Laws.{Turn}
-use Rattle.cl_rest_laws.specs.Rests.{receives_from, rests, spelled}
+use Rattle.cl_rest_laws.specs.Rests.{rests, rests_for}
 use Rattle.cl_rest_laws.specs.Buffering.{NeedBuffers}
 use Rattle.cl_rest_laws.specs.Ends.{IsEndWhereSendsWait}
 
 pub record RestLaw : Type 0 where
+  -- a rank that rests does so until some rank receives, and one that rests until a rank receives rests
+  pub some : (c : Cluster) (r hart : ℕ) → rests c r hart ≡ true → (k : ℕ) × (rests_for c r hart k ≡ true)
+  pub each : (c : Cluster) (r hart k : ℕ) → rests_for c r hart k ≡ true → rests c r hart ≡ true
   -- a rank that doesn't rest comes to rest by its own turn alone
   pub away : (c new : Cluster) (r s which hart : ℕ) → s ≢ r → Turn s which c new → rests c r hart ≡ false
       → rests new r hart ≡ false
   -- and one that rests does so until it goes on or the other rank receives
-  pub stays : (c new : Cluster) (r s which hart : ℕ) (rank : Rank) → s ≢ r → slice_get c.ranks r ≡ Some rank
-      → receives_from rank.site (spelled rank hart) s ≡ false
-      → Turn s which c new → rests c r hart ≡ true
-      → rests new r hart ≡ true
+  pub stays : (c new : Cluster) (r s which hart k : ℕ) → s ≢ r → s ≢ k → Turn s which c new
+      → rests_for c r hart k ≡ true
+      → rests_for new r hart k ≡ true
   -- in alike clusters the same ranks rest
   pub alike : (wild : Wild) (a b : Cluster) (r hart : ℕ) → AreAlike wild a b → rests b r hart ≡ rests a r hart
+  pub alike_for : (wild : Wild) (a b : Cluster) (r hart k : ℕ) → AreAlike wild a b
+      → rests_for b r hart k ≡ rests_for a r hart k
 
 -- a run in which no rank takes a turn that rests before it
 abbrev pub IsPatientRun : Cluster → List Step → Cluster → Type 0

@@ -1,6 +1,6 @@
--- Where a rank may rest: behind a standard send that nobody received. MPI lets such a send wait for its receive (MPI 4.1,
--- 3.4), and calls a program unsafe that needs it to go on (3.5).
-use Rattle.std.specs.Prelude.{ℕ, ◌-◌, ◌==◌, ◌&&◌, nat_lt, not, Bool, true, false, length, Option, Some, None}
+-- Where a rank may rest: behind a standard send that nobody received, and before a call that completes one. MPI lets such a
+-- send wait for its receive (MPI 4.1, 3.4), and calls a program unsafe that needs it to go on (3.5).
+use Rattle.std.specs.Prelude.{ℕ, ◌-◌, ◌==◌, ◌&&◌, ◌||◌, nat_lt, not, Bool, true, false, List, [], ◌∷◌, length, Option, Some, None}
 use Rattle.std.specs.List.{list_any, slice_get}
 use Rattle.rv_memory.specs.Access.{word_at}
 use Rattle.rv_memory.specs.Memory.{Memory}
@@ -8,20 +8,31 @@ use Rattle.rv_hart.specs.State.{State}
 use Rattle.rv_hart.specs.declared.state.Mode.{Mode}
 use Rattle.rv_hart.specs.declared.state.Mode.TheVariants.{Running, Waiting, Ended, Trapped}
 use Rattle.rv_hart.specs.declared.state.Wait.TheVariants.{Post, Again}
+use Rattle.mp_match.specs.declared.posts.Line.{Line}
 use Rattle.mp_match.specs.declared.posts.Sent.{Sent}
 use Rattle.mp_hub.specs.Hub.{HubView}
+use Rattle.mp_request.specs.declared.entries.OpenRequest.{OpenRequest}
+use Rattle.mp_request.specs.declared.entries.Progress.{Progress}
+use Rattle.mp_request.specs.declared.entries.Progress.TheVariants as progress
+use Rattle.mp_request.specs.declared.entries.State.{State as RequestState}
+use Rattle.mp_request.specs.declared.entries.State.TheVariants.{Ordinary, Inactive, Active}
+use Rattle.mp_request.specs.Table.{request_at}
 use Rattle.cl_calls.specs.declared.calls.Call.{Call}
 use Rattle.cl_calls.specs.declared.calls.Call.TheVariants as call
 use Rattle.cl_calls.specs.declared.calls.Sending.{Sending}
 use Rattle.cl_calls.specs.declared.sites.Site.{Site}
 use Rattle.cl_calls.specs.Calls.{argument, call_named}
+use Rattle.cl_calls.specs.Handles.{handles_in}
+use Rattle.cl_calls.specs.Needs.{array_at}
 use Rattle.cl_calls.specs.Site.{member, members}
-use Rattle.cl_state.specs.Asked.{is_ecall, part_of}
+use Rattle.cl_state.specs.declared.asking.Doing.{Doing}
+use Rattle.cl_state.specs.declared.asking.Doing.TheVariants.{Go}
+use Rattle.cl_state.specs.Asked.{doing, is_ecall, part_of}
 use Rattle.cl_state.specs.Rank.{Rank}
 use Rattle.cl_state_laws.specs.Vain.{mode_of}
 use Rattle.cl_machine.specs.Cluster.{Cluster}
 use Rattle.cl_order_laws.specs.Alike.{hub_of}
-use Rattle.cl_rest_laws.specs.Unpaired.{is_unpaired}
+use Rattle.cl_rest_laws.specs.Unpaired.{is_unpaired, is_unpaired_at}
 
 -- ---- the send behind which a hart stands
 
@@ -50,9 +61,12 @@ is_free_to_go (Trapped cause pc) = false
 abbrev pub buffered_word : ℕ
 buffered_word = 0x6465726566667562
 
+abbrev pub says_buffered : State → Bool
+says_buffered hart = argument hart 5 == buffered_word
+
 -- the call that was made wasn't refused, for its code in a0 is 0, and doesn't say that it is buffered
 abbrev pub may_wait_for_receipt : State → Bool
-may_wait_for_receipt hart = (argument hart 0 == 0) && not (argument hart 5 == buffered_word)
+may_wait_for_receipt hart = (argument hart 0 == 0) && not (says_buffered hart)
 
 -- the instruction before the one at its pc is an ECALL, of 4 bytes
 abbrev pub is_behind_call : Memory → State → Bool
@@ -68,23 +82,70 @@ stands_behind_call rank hart =
 abbrev pub spelled : Rank → ℕ → Call
 spelled rank hart = call_named (part_of rank hart).hart
 
--- the hart stands behind a SEND, and neither a receive nor a matched probe has the message. Messages of one rank to one rank
--- in one communicator with one tag are received in the order in which they were sent (3.5): if one of them wasn't received,
--- the last one wasn't
-abbrev pub rests_in : HubView → ℕ → Rank → ℕ → Bool
-rests_in hub r rank hart =
+-- the hart stands behind a SEND, and neither a receive nor a matched probe has its message, of which this holds. Messages of
+-- one rank to one rank in one communicator with one tag are received in the order in which they were sent (3.5): if one of
+-- them wasn't received, the last one wasn't
+abbrev pub rests_behind : (Sent → Bool) → HubView → ℕ → Rank → ℕ → Bool
+rests_behind p hub r rank hart =
     stands_behind_call rank hart
-    && list_any (is_unpaired (is_message_of rank.site r (spelled rank hart))) hub.board.lines
+    && list_any (is_unpaired (λ m. is_message_of rank.site r (spelled rank hart) m && p m)) hub.board.lines
 
-abbrev pub rests_if : HubView → ℕ → Option Rank → ℕ → Bool
-rests_if hub r None hart = false
-rests_if hub r (Some rank) hart = rests_in hub r rank hart
+-- ---- the sends that a call is to complete
+
+-- the post of a standard send that is open (3.7.2), or of a persistent one that was started (3.9)
+abbrev pub post_sent : Progress → Option ℕ
+post_sent (progress.Sent post) = Some post
+post_sent progress.Finished = None
+post_sent (progress.OnPost post) = None
+post_sent progress.InPhase = None
+
+abbrev pub post_in : RequestState → Option ℕ
+post_in (Ordinary going) = post_sent going
+post_in Inactive = None
+post_in (Active going) = post_sent going
+
+abbrev pub post_of_send : Option OpenRequest → Option ℕ
+post_of_send None = None
+post_of_send (Some request) = post_in request.state
+
+-- neither a receive nor a matched probe has the message of this post, which is a standard send of rank r, and of which this
+-- holds
+abbrev pub is_open_post : (Sent → Bool) → ℕ → List Line → Option ℕ → Bool
+is_open_post p r lines None = false
+is_open_post p r lines (Some post) =
+    is_unpaired_at (λ m. ((m.envelope.source == r) && not m.sync) && p m) lines post
+
+-- the handles whose requests a WAIT or WAITALL completes, unless its arguments are refused
+abbrev pub handles_waited_for : Memory → Doing → List ℕ
+handles_waited_for memory (Go (call.Wait c)) = c.handle ∷ []
+handles_waited_for memory (Go (call.Waitall s)) = handles_in memory (array_at s.array s.count)
+handles_waited_for memory _ = []
+
+-- those of the call that the hart is about to make
+abbrev pub handles_ahead : Rank → ℕ → List ℕ
+handles_ahead rank hart = handles_waited_for rank.memory (doing rank.site (part_of rank hart))
+
+-- the hart is about to wait for such a send, and doesn't say in a5 that it is buffered
+abbrev pub rests_before : (Sent → Bool) → HubView → ℕ → Rank → ℕ → Bool
+rests_before p hub r rank hart =
+    not (says_buffered (part_of rank hart).hart)
+    && list_any (λ handle. is_open_post p r hub.board.lines (post_of_send (request_at rank.requests handle)))
+    (handles_ahead rank hart)
+
+-- ---- where a hart rests
+
+-- for a message of which this holds
+abbrev pub rests_in : (Sent → Bool) → HubView → ℕ → Rank → ℕ → Bool
+rests_in p hub r rank hart = rests_behind p hub r rank hart || rests_before p hub r rank hart
+
+abbrev pub rests_if : (Sent → Bool) → HubView → ℕ → Option Rank → ℕ → Bool
+rests_if p hub r None hart = false
+rests_if p hub r (Some rank) hart = rests_in p hub r rank hart
 
 -- the hart of rank r rests
 abbrev pub rests : Cluster → ℕ → ℕ → Bool
-rests c r hart = rests_if (hub_of c.journal) r (slice_get c.ranks r) hart
+rests c r hart = rests_if (λ m. true) (hub_of c.journal) r (slice_get c.ranks r) hart
 
--- the rank that is to receive what the call sends
-abbrev pub receives_from : Site → Call → ℕ → Bool
-receives_from site (call.Send s) k = member site s.comm s.dest == k
-receives_from site _ k = false
+-- until rank k receives what was sent to it
+abbrev pub rests_for : Cluster → ℕ → ℕ → ℕ → Bool
+rests_for c r hart k = rests_if (λ m. m.dest == k) (hub_of c.journal) r (slice_get c.ranks r) hart

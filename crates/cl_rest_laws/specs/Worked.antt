@@ -1,10 +1,11 @@
--- Worked rows: runs to ranks that need buffers, runs to ranks that don't, and sends behind which no rank rests.
-use Rattle.std.specs.Prelude.{ℕ, ◌-◌, List, [], ◌∷◌, ◌++◌, ◌≡◌, replicate, true, false}
+-- Worked rows: runs to ranks that need buffers, runs to ranks that don't, and sends for which no rank rests.
+use Rattle.std.specs.Prelude.{ℕ, ◌+◌, ◌-◌, List, [], ◌∷◌, ◌++◌, ◌≡◌, replicate, true, false}
 use Rattle.rv_memory.specs.Memory.{Memory}
 use Rattle.mp_types.specs.declared.replies.Reply.TheVariants as reply
 use Rattle.cl_trace.specs.declared.events.Kind.{Kind}
 use Rattle.cl_state.specs.Rank.{Rank}
 use Rattle.cl_state.specs.Rows.{one_page}
+use Rattle.cl_state_laws.specs.SeveralRows.{handle}
 use Rattle.cl_machine.specs.declared.steps.Step.{Step}
 use Rattle.cl_machine.specs.Cluster.{Cluster, IsRun}
 use Rattle.cl_machine.specs.Worked.{sent_message, step}
@@ -150,3 +151,83 @@ WaitsInSsend =
 abbrev pub IsRefused : Type 0
 IsRefused =
     GetToNoRest (both (send 0 1) (recv 1 0)) (sends ++ step 0 10 Kind.Plain ∷ step 0 11 Kind.Local ∷ [])
+
+-- ---- sends that a call is to complete
+
+-- 24 bytes of text: nothing, ECALL, the handle from a1 to a0, no status in a1, the number of WAIT in a7, and ECALL again.
+-- Then 40 bytes of data that begin with "hi\n"
+abbrev pub call_and_wait : Memory
+call_and_wait = record {
+  bytes =
+      0 ∷ 0 ∷ 0 ∷ 0 ∷ 0x73 ∷ 0 ∷ 0 ∷ 0 ∷ 0x13 ∷ 0x85 ∷ 0x05 ∷ 0 ∷ 0x93 ∷ 0x05 ∷ 0 ∷ 0 ∷ 0x93 ∷ 0x08 ∷ 0x70 ∷ 0x01 ∷ 0x73
+      ∷ 0 ∷ 0 ∷ 0 ∷ 104 ∷ 105 ∷ 10 ∷ replicate 37 9;
+  text = 24;
+  pages = one_page;
+}
+
+-- ISEND and ISSEND of the 2 bytes at 25 with tag 7, and an ISEND with this word in a5, which stays there
+abbrev pub isend : ℕ → ℕ → Rank
+isend rank dest = record (at_call rank (25 ∷ 2 ∷ dest ∷ 7 ∷ 0 ∷ []) 19) { memory = call_and_wait }
+
+abbrev pub issend : ℕ → ℕ → Rank
+issend rank dest = record (at_call rank (25 ∷ 2 ∷ dest ∷ 7 ∷ 0 ∷ []) 20) { memory = call_and_wait }
+
+abbrev pub isend_saying : ℕ → ℕ → ℕ → Rank
+isend_saying word rank dest = record (at_call rank (25 ∷ 2 ∷ dest ∷ 7 ∷ 0 ∷ word ∷ []) 19) { memory = call_and_wait }
+
+-- a rank comes to its WAIT by three instructions, the first at this stamp
+abbrev pub comes_to_wait : ℕ → ℕ → List Step
+comes_to_wait rank stamp =
+    step rank stamp Kind.Plain ∷ step rank (1 + stamp) Kind.Plain ∷ step rank (2 + stamp) Kind.Plain ∷ []
+
+-- rank 0's ISEND is the first post, and then it stands at the WAIT for it
+abbrev pub sends_and_waits : List Step
+sends_and_waits = sends ++ comes_to_wait 0 10
+
+-- it rests there where rank 1 didn't receive yet
+abbrev pub UnreceivedAtWait : Type 0
+UnreceivedAtWait = GetToRest (both (isend 0 1) (recv 1 0)) sends_and_waits
+
+-- it doesn't once rank 1 received
+abbrev pub ReceivedAtWait : Type 0
+ReceivedAtWait =
+    GetToNoRest (both (isend 0 1) (recv 1 0)) (sends_and_waits ++ step 1 10 (Kind.Hub (reply.Got sent_message)) ∷ [])
+
+-- two ranks need buffers that each wait for an ISEND to the other
+abbrev pub BothWait : Type 0
+BothWait =
+    GetToNeedBuffers (0 ∷ 1 ∷ []) (both (isend 0 1) (isend 1 0)) (both_send ++ comes_to_wait 0 10 ++ comes_to_wait 1 11)
+
+-- a WAIT that says that what it waits for is buffered
+abbrev pub SaysBufferedAtWait : Type 0
+SaysBufferedAtWait = GetToNoRest (both (isend_saying buffered_word 0 1) (recv 1 0)) sends_and_waits
+
+-- 40 bytes of text: nothing, ECALL, 57 in a0, 2 in a1, ECALL, the address and the length of the array in a0 and a1, no
+-- statuses in a2, the number of WAITALL in a7, and ECALL. Then the array, of the handles 1 and 2, at 40, and 8 bytes that
+-- begin with "hi\n"
+abbrev pub two_calls_and_waitall : Memory
+two_calls_and_waitall = record {
+  bytes =
+      0 ∷ 0 ∷ 0 ∷ 0 ∷ 0x73 ∷ 0 ∷ 0 ∷ 0 ∷ 0x13 ∷ 0x05 ∷ 0x90 ∷ 0x03 ∷ 0x93 ∷ 0x05 ∷ 0x20 ∷ 0 ∷ 0x73 ∷ 0 ∷ 0 ∷ 0 ∷ 0x13
+      ∷ 0x05 ∷ 0x80 ∷ 0x02 ∷ 0x93 ∷ 0x05 ∷ 0x20 ∷ 0 ∷ 0x13 ∷ 0x06 ∷ 0 ∷ 0 ∷ 0x93 ∷ 0x08 ∷ 0x30 ∷ 0x02 ∷ 0x73 ∷ 0 ∷ 0 ∷ 0
+      ∷ handle 1 ++ handle 2 ++ 104 ∷ 105 ∷ 10 ∷ replicate 5 9;
+  text = 40;
+  pages = one_page;
+}
+
+-- two ISENDs of the 2 bytes at 57 with tag 7
+abbrev pub isend_twice : ℕ → ℕ → Rank
+isend_twice rank dest = record (at_call rank (57 ∷ 2 ∷ dest ∷ 7 ∷ 0 ∷ []) 19) { memory = two_calls_and_waitall }
+
+-- a rank rests at its WAITALL of two ISENDs where one of them was received
+abbrev pub OneOfTwo : Type 0
+OneOfTwo =
+    GetToRest (both (isend_twice 0 1) (recv 1 0))
+    (sends ++ step 0 10 Kind.Plain ∷ step 0 11 Kind.Plain ∷ step 0 12 (Kind.Hub (reply.Posted 2 true))
+    ∷ step 0 13 Kind.Plain ∷ step 0 14 Kind.Plain ∷ step 0 15 Kind.Plain ∷ step 0 16 Kind.Plain
+    ∷ step 1 13 (Kind.Hub (reply.Got sent_message)) ∷ [])
+
+-- at the WAIT for an ISSEND a rank doesn't rest: it waits by itself
+abbrev pub SyncAtWait : Type 0
+SyncAtWait =
+    GetToNoRest (both (issend 0 1) (recv 1 0)) (step 0 9 (Kind.Hub (reply.Posted 1 false)) ∷ comes_to_wait 0 10)

@@ -8,7 +8,7 @@ pub fn unpaired_law()
     ensures { UnpairedLaw }
 {}
 
-/// A rank rests behind its standard send until it goes on or the other rank receives, and comes to rest by no other rank's
+/// A rank rests for its standard send until it goes on or the other rank receives, and comes to rest by no other rank's
 /// turn.
 pub fn rest_law()
     ensures { RestLaw }

@@ -1,4 +1,4 @@
-//! Ranks that rest behind a standard send which nobody received, and ranks that need buffers: laws over the written cluster
+//! Ranks that rest for a standard send which nobody received, and ranks that need buffers: laws over the written cluster
 //! machine, with no code.
 #![tactic(auto)]
 

@@ -1,7 +1,8 @@
-//! Worked rows: ranks that need buffers, ranks that don't, and sends behind which no rank rests.
+//! Worked rows: ranks that need buffers, ranks that don't, and sends for which no rank rests.
 
-ghost use Rattle.cl_rest_laws.specs.Worked.{Claimed, IsRefused, OneAlone, OneGoesOn, ReceivePosted, ReceiveWaits, Received};
-ghost use Rattle.cl_rest_laws.specs.Worked.{SaysBuffered, SaysOther, SendFirst, ToEnded, ToItself, Unreceived, WaitsInSsend};
+ghost use Rattle.cl_rest_laws.specs.Worked.{BothWait, Claimed, IsRefused, OneAlone, OneGoesOn, OneOfTwo, ReceivePosted, ReceiveWaits};
+ghost use Rattle.cl_rest_laws.specs.Worked.{Received, ReceivedAtWait, SaysBuffered, SaysBufferedAtWait, SaysOther, SendFirst};
+ghost use Rattle.cl_rest_laws.specs.Worked.{SyncAtWait, ToEnded, ToItself, Unreceived, UnreceivedAtWait, WaitsInSsend};
 
 /// Two ranks that each send to the other first need buffers.
 pub fn each_sends_first()
@@ -72,4 +73,34 @@ pub fn waits_in_synchronous_send()
 /// A rank doesn't rest behind a send that was refused, though nobody received the message that it sent before.
 pub fn send_was_refused()
     ensures { IsRefused }
+{}
+
+/// A rank rests before the WAIT for an ISEND that nobody received.
+pub fn waits_for_what_is_left()
+    ensures { UnreceivedAtWait }
+{}
+
+/// It doesn't rest once the message was received.
+pub fn waits_for_what_was_received()
+    ensures { ReceivedAtWait }
+{}
+
+/// Two ranks that each wait for an ISEND to the other need buffers.
+pub fn each_waits_for_its_send()
+    ensures { BothWait }
+{}
+
+/// A rank doesn't rest before a WAIT that says that its message is buffered.
+pub fn wait_says_that_it_is_buffered()
+    ensures { SaysBufferedAtWait }
+{}
+
+/// A rank rests before the WAITALL of two ISENDs while one of the messages isn't received.
+pub fn waits_for_one_of_two()
+    ensures { OneOfTwo }
+{}
+
+/// A rank that waits for a synchronous ISSEND doesn't rest.
+pub fn waits_for_synchronous_send()
+    ensures { SyncAtWait }
 {}

@@ -1,7 +1,7 @@
 -- Who is held up together, by leaving out whoever isn't held up beside the rest.
-use Rattle.std.specs.Prelude.{ℕ, ◌<◌, ◌≡◌, ◌⊎◌, IsTrue, Bool, true, false, List, length, get_or, remove, Option, Some, None}
+use Rattle.std.specs.Prelude.{ℕ, ◌<◌, ◌≡◌, ◌==◌, ◌⊎◌, IsTrue, Bool, true, false, List, length, get_or, remove, Option, Some, None}
 use Rattle.std.specs.List.{slice_get}
-use Rattle.std.proofs.Common.{inl, inr, refl, sym, subst, ◌∙◌, arith}
+use Rattle.std.proofs.Common.{inl, inr, refl, sym, subst, arith}
 use Rattle.rv_image_types.specs.declared.images.ImageParts.{ImageParts}
 use Rattle.cl_state.specs.Rank.{Rank, below}
 use Rattle.cl_state_laws.specs.Vain.{IsStopped, mode_of}
@@ -10,7 +10,7 @@ use Rattle.cl_deadlock_laws.specs.Stuck.{IsStuckHart, is_among}
 use Rattle.cl_deadlock_laws.specs.Laws.{IsStuckBeside}
 use Rattle.cl_deadlock_laws.proofs.Unions.{Within, wider}
 use Rattle.cl_rest_laws.specs.Buffering.{RestsAmong, SomeRests}
-use Rattle.cl_rest_laws.specs.Rests.{rests, rests_if}
+use Rattle.cl_rest_laws.specs.Rests.{rests_if}
 use Rattle.cl_deadlock.specs.Stuck.{IsFreeIn}
 use Rattle.cl_deadlock.specs.Why.{IsStateOf}
 use Rattle.cl_deadlock.proofs.Left.{below_among, still_there}
@@ -40,19 +40,18 @@ stuck_held among c r stuck rank hart there low = elim (stuck rank hart there low
 ]
 
 -- who rests beside them is held up, where it has no other hart
-pub rests_held : (among : List ℕ) (c : Cluster) (r : ℕ) → HaveOneHart c
-    → ((rank : Rank) → slice_get c.ranks r ≡ Some rank → RestsAmong among c r rank 0) → IsHeldUp among c r
+pub rests_held : (among : List ℕ) (c : Cluster) (r : ℕ) → HaveOneHart c → RestsAmong among c r 0 → IsHeldUp among c r
 rests_held among c r one resting rank hart there low =
-    inr (inr (subst (RestsAmong among c r rank) (first_hart c r rank hart one there low) (resting rank there)))
+    inr (inr (subst (RestsAmong among c r) (first_hart c r rank hart one there low) resting))
 
 -- who is neither isn't
-pub not_held : (among : List ℕ) (c : Cluster) (r : ℕ) → HaveOneHart c → ¬ IsStuckBeside among c r
-    → ((rank : Rank) → slice_get c.ranks r ≡ Some rank → ¬ RestsAmong among c r rank 0) → ¬ IsHeldUp among c r
+pub not_held : (among : List ℕ) (c : Cluster) (r : ℕ) → HaveOneHart c → ¬ IsStuckBeside among c r → ¬ RestsAmong among c r 0
+    → ¬ IsHeldUp among c r
 not_held among c r one free none held = free (λ rank hart there low. elim (held rank hart there low) [
   | inl stopped ↦ inl stopped
   | inr (inl stuck) ↦ inr stuck
   | inr (inr resting) ↦ absurd
-      (none rank there (subst (RestsAmong among c r rank) (sym (first_hart c r rank hart one there low)) resting))
+      (none (subst (RestsAmong among c r) (sym (first_hart c r rank hart one there low)) resting))
 ])
 
 -- by what is told of both
@@ -64,19 +63,25 @@ tells_held among standing r false free resting image here is =
     not_held among here.cluster r is.one (free image here.cluster (state_of image standing here is))
     (resting image here is.stands)
 
+-- who rests until one of some receives does so until one of more receives
+among_more : (some all : List ℕ) (c : Cluster) (r hart : ℕ) → Within some all → RestsAmong some c r hart
+    → RestsAmong all c r hart
+among_more some all c r hart within resting = record {
+  receiver = resting.receiver;
+  among = within resting.receiver resting.among;
+  rests_there = resting.rests_there;
+}
+
 -- who is held up beside some is held up beside more
 held_wider : (some all : List ℕ) (c : Cluster) (r : ℕ) → Within some all → IsHeldUp some c r → IsHeldUp all c r
 held_wider some all c r within held rank hart there low = elim (held rank hart there low) [
   | inl stopped ↦ inl stopped
   | inr (inl stuck) ↦ both (wider some all within c r rank hart (inr stuck))
-  | inr (inr resting) ↦ inr (inr (record {
-    rests_there = resting.rests_there;
-    only = λ k may. within k (resting.only k may);
-  }))
+  | inr (inr resting) ↦ inr (inr (among_more some all c r hart within resting))
 ]
   where
     both : IsStopped (mode_of rank hart) ⊎ IsStuckHart all c r rank hart
-        → IsStopped (mode_of rank hart) ⊎ (IsStuckHart all c r rank hart ⊎ RestsAmong all c r rank hart)
+        → IsStopped (mode_of rank hart) ⊎ (IsStuckHart all c r rank hart ⊎ RestsAmong all c r hart)
     both (inl stopped) = inl stopped
     both (inr stuck) = inr (inl stuck)
 
@@ -109,15 +114,17 @@ rests_in_more some all c within one = record {
   among = within one.r one.among;
   there = one.there;
   inside = one.inside;
-  rests_there = one.rests_there;
+  rests_there = among_more some all c one.r one.hart within one.rests_there;
 }
 
 -- a rank that rests has a hart that does
-pub one_rests : (among : List ℕ) (c : Cluster) (r : ℕ) → HaveOneHart c → IsTrue (is_among among r) → rests c r 0 ≡ true
+pub one_rests : (among : List ℕ) (c : Cluster) (r : ℕ) → HaveOneHart c → IsTrue (is_among among r) → RestsAmong among c r 0
     → SomeRests among c
-one_rests among c r one within resting = go (slice_get c.ranks r) refl resting
+one_rests among c r one within resting = go (slice_get c.ranks r) refl resting.rests_there
   where
-    go : (o : Option Rank) → slice_get c.ranks r ≡ o → rests_if (hub_of c.journal) r o 0 ≡ true → SomeRests among c
+    go : (o : Option Rank) → slice_get c.ranks r ≡ o
+        → rests_if (λ m. m.dest == resting.receiver) (hub_of c.journal) r o 0 ≡ true
+        → SomeRests among c
     go None e is = absurd (cc)
     go (Some rank) e is =
         let count = one r rank e in
@@ -132,9 +139,7 @@ one_rests among c r one within resting = go (slice_get c.ranks r) refl resting
         }
 
 pub none_rests : (among : List ℕ) (c : Cluster) → HaveOneHart c
-    → ((r : ℕ) → IsTrue (is_among among r) → false ≡ rests c r 0) → ¬ SomeRests among c
+    → ((r : ℕ) → IsTrue (is_among among r) → ¬ RestsAmong among c r 0) → ¬ SomeRests among c
 none_rests among c one none some =
-    let first = first_hart c some.r some.rank some.hart one some.there some.inside in
-    let no : false ≡ true =
-    none some.r some.among ∙ subst (λ h. rests c some.r h ≡ true) (sym first) some.rests_there in
-    absurd (cc)
+    let first = sym (first_hart c some.r some.rank some.hart one some.there some.inside) in
+    none some.r some.among (subst (RestsAmong among c some.r) first some.rests_there)

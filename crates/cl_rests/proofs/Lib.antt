@@ -1,2 +1,3 @@
-pub mod Behind
+pub mod Found
+pub mod Among
 pub mod Held

@@ -22,20 +22,20 @@ pub record IsNodeOf (image : ImageParts) (standing : Standing) (here : Node) : T
   pub stands : StandsAt image standing here
   pub one : HaveOneHart here.cluster
 
--- the rank's first hart rests behind a send that one of these is to receive
+-- the rank's first hart rests until one of these receives
 abbrev pub IsRestBesideIf : List ℕ → Cluster → ℕ → Bool → Type 0
-IsRestBesideIf among c r true = (rank : Rank) → slice_get c.ranks r ≡ Some rank → RestsAmong among c r rank 0
-IsRestBesideIf among c r false = (rank : Rank) → slice_get c.ranks r ≡ Some rank → ¬ RestsAmong among c r rank 0
+IsRestBesideIf among c r true = RestsAmong among c r 0
+IsRestBesideIf among c r false = ¬ RestsAmong among c r 0
 
 abbrev pub TellsRestsBeside : List ℕ → Standing → ℕ → Bool → Type 0
 TellsRestsBeside among standing r found =
     (image : ImageParts) (here : Node) → StandsAt image standing here → IsRestBesideIf among here.cluster r found
 
--- each hart of the rank is stopped, waits in vain beside these, or rests behind a send that one of these is to receive
+-- each hart of the rank is stopped, waits in vain beside these, or rests until one of these receives
 abbrev pub IsHeldUp : List ℕ → Cluster → ℕ → Type 0
 IsHeldUp among c r =
     (rank : Rank) (hart : ℕ) → slice_get c.ranks r ≡ Some rank → hart < length rank.harts
-    → IsStopped (mode_of rank hart) ⊎ (IsStuckHart among c r rank hart ⊎ RestsAmong among c r rank hart)
+    → IsStopped (mode_of rank hart) ⊎ (IsStuckHart among c r rank hart ⊎ RestsAmong among c r hart)
 
 abbrev pub IsHeldUpIf : List ℕ → Cluster → ℕ → Bool → Type 0
 IsHeldUpIf among c r true = IsHeldUp among c r
@@ -60,7 +60,7 @@ abbrev pub SomeRestsIf : List ℕ → Cluster → Bool → Type 0
 SomeRestsIf among c true = SomeRests among c
 SomeRestsIf among c false = ¬ SomeRests among c
 
--- whether a hart of these ranks rests
+-- whether a hart of these ranks rests until one of them receives
 abbrev pub TellsRest : List ℕ → Standing → Bool → Type 0
 TellsRest among standing found =
     (image : ImageParts) (here : Node) → IsNodeOf image standing here → SomeRestsIf among here.cluster found

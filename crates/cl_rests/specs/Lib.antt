@@ -1,4 +1,5 @@
 pub mod Needing
 pub mod Telling
-pub mod Behind
+pub mod Sought
+pub mod Found
 pub mod Held

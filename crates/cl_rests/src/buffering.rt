@@ -4,35 +4,17 @@ ghost use Rattle.std.specs.Prelude.{◌≡◌, ◌<◌, ℕ, IfOk, None, Some, f
 ghost use Rattle.std.specs.List.Sorted.{IsStrictlyIncreasing};
 ghost use Rattle.std.specs.Option.{option_map};
 ghost use Rattle.cl_state.specs.Rank.{below};
-ghost use Rattle.cl_deadlock_laws.specs.Stuck.{is_among as is_among_of};
 ghost use Rattle.cl_deadlock.specs.Why.{AreBelow};
-ghost use Rattle.cl_rests.specs.Held.{AreHeldUpIn, HasHeldUpIn, TellsHeldUp, TellsRest, TellsRestsBeside};
+ghost use Rattle.cl_rests.specs.Held.{AreHeldUpIn, HasHeldUpIn, TellsHeldUp, TellsRest};
 ghost use Rattle.cl_rests.specs.Telling.{TellsNeed};
 
-use crate::resting::{receiver, rests};
+use crate::resting::rests_beside;
 use cl_deadlock::is_stuck_beside;
 use cl_moves::Standing;
 use std::alloc::{AllocError, Global};
 
-/// Whether the rank is one of these.
-fn is_among(among: &[u8], rank: u8) -> bool
-    ensures { result ≡ is_among_of among.now rank }
-{
-    among.iter().any(|other| *other == rank)
-}
-
-/// Whether the rank rests behind a send that one of these is to receive.
-fn rests_beside(among: &[u8], standing: &Standing, rank: u8) -> bool
-    ensures { TellsRestsBeside among.now standing.now rank result }
-{
-    match receiver(standing, rank) {
-        None => false,
-        Some(other) => is_among(among, other),
-    }
-}
-
-/// Whether each hart of the rank is stopped, waits in vain for what these alone could bring, or rests behind a send that one of
-/// them is to receive. The only error is want of memory, for the posts of a WAITALL of the rank's.
+/// Whether each hart of the rank is stopped, waits in vain for what these alone could bring, or rests until one of them
+/// receives. The only error is want of memory, for the posts of a WAITALL of the rank's.
 fn is_held_up(among: &[u8], standing: &Standing, rank: u8) -> Result<bool, AllocError>
     ensures { IfOk result (TellsHeldUp among.now standing.now rank) }
 {
@@ -92,12 +74,12 @@ fn held_up(alloc: Global, standing: &Standing) -> Result<Vec<u8>, AllocError>
     }
 }
 
-/// Whether one of these ranks rests.
+/// Whether one of these ranks rests until one of them receives.
 fn some_rests(among: &[u8], standing: &Standing) -> bool
     ensures { TellsRest among.now standing.now result }
 {
     for place in 0..among.len() {
-        if rests(standing, among[place]) {
+        if rests_beside(among, standing, among[place]) {
             return true;
         }
     }
@@ -105,8 +87,8 @@ fn some_rests(among: &[u8], standing: &Standing) -> bool
 }
 
 /// The ranks that need buffers, in ascending order, if each rank has one hart: the largest set in which each rank has ended,
-/// waits for something that only the set could bring, or rests behind a send to one of them. `None` if no rank of that set
-/// rests. The only error is running out of memory.
+/// waits for something that only the set could bring, or rests until one of the set receives, behind a SEND or before a WAIT or
+/// WAITALL of one. `None` if no rank of that set rests so. The only error is running out of memory.
 pub fn needing(alloc: Global, standing: &Standing) -> Result<Option<Vec<u8>>, AllocError>
     ensures { IfOk result (λ found. TellsNeed standing.now (option_map (λ ranks. ranks.items) found)) }
 {

@@ -1,54 +1,25 @@
 //! Ranks that rest.
 
-ghost use Rattle.std.specs.Prelude.{◌≡◌, ◌↔◌, Some, true};
+ghost use Rattle.std.specs.Prelude.{◌≡◌, ◌<◌, option_map, vec_len};
 ghost use Rattle.std.specs.List.{list_any};
 ghost use Rattle.cl_state.specs.Room.{rank_of};
-ghost use Rattle.cl_rest_laws.specs.Rests.{is_behind_call as is_behind_of, is_free_to_go as is_free_of, is_sent_with};
-ghost use Rattle.cl_rest_laws.specs.Rests.{may_wait_for_receipt as may_wait_of};
-ghost use Rattle.cl_rest_laws.specs.Unpaired.{is_unpaired};
-ghost use Rattle.cl_rests.specs.Behind.{IsReceiverAt, sent_behind};
+ghost use Rattle.cl_state.specs.TurnRoom.{IsNext};
+ghost use Rattle.cl_rest_laws.specs.Rests.{handles_waited_for as handles_in, is_behind_call as is_behind_of};
+ghost use Rattle.cl_rest_laws.specs.Rests.{is_free_to_go as is_free_of, may_wait_for_receipt as may_wait_of};
+ghost use Rattle.cl_rest_laws.specs.Rests.{says_buffered as says_buffered_of};
+ghost use Rattle.cl_rests.specs.Held.{TellsRestsBeside};
+ghost use Rattle.cl_rests.specs.Found.{TellsBefore, TellsBehind, TellsIn, TellsRestsTo, sent_behind};
+ghost use Rattle.cl_rests.specs.Sought.{is_sought_handle};
 ghost use Rattle.cl_rests.specs.Telling.{IsRestAt};
 
-use cl_calls::{Call, Sending, Site};
+use crate::handles::{handles_waited_for, is_wait, post_of_send};
+use crate::sought::Sought;
+use cl_calls::{Call, Sending};
 use cl_moves::Standing;
-use cl_state::{RankState, is_ecall};
-use mp_match::{Line, Post, Sent};
+use cl_state::{Doing, RankState, is_ecall};
+use mp_request::Requests;
 use rv_decode::Reg;
 use rv_hart::{Hart, Mode, Wait};
-
-/// Whether a rank sends the message by a SEND with these arguments.
-fn is_sent(site: &Site, rank: u8, sending: &Sending, sent: &Sent) -> bool
-    ensures { result ≡ is_sent_with site.now rank sending.now sent.now }
-{
-    let members = site.members(sending.comm);
-    if sending.dest >= members.len() as u64 {
-        return false;
-    }
-    !sent.sync
-        && sent.envelope.source == rank
-        && sent.dest == members[sending.dest as usize]
-        && u64::from(sent.envelope.tag) == sending.tag
-        && u64::from(sent.envelope.comm) == sending.comm
-}
-
-/// Whether a message that a rank sends so has no partner.
-fn is_unreceived(site: &Site, rank: u8, sending: &Sending, line: &Line) -> bool
-    ensures { result ≡ is_unpaired (is_sent_with site.now rank sending.now) line.now }
-{
-    match (line.post, line.partner) {
-        (Post::Send(sent), None) => is_sent(site, rank, sending, &sent),
-        _ => false,
-    }
-}
-
-/// Whether one of the messages that a rank sends so has no partner.
-fn has_unreceived(site: &Site, rank: u8, sending: &Sending, lines: &[Line]) -> bool
-    ensures { result ≡ list_any (is_unpaired (is_sent_with site.now rank sending.now)) lines.now }
-{
-    lines
-        .iter()
-        .any(|line| is_unreceived(site, rank, sending, line))
-}
 
 /// Whether a hart in this mode is neither stopped nor polls a post.
 fn is_free_to_go(mode: Mode) -> bool
@@ -57,14 +28,23 @@ fn is_free_to_go(mode: Mode) -> bool
     matches!(mode, Mode::Running | Mode::Waiting(Wait::Again))
 }
 
-/// What a SEND has in a5 whose message is buffered by whoever sends it: the eight letters of `buffered`.
+/// What a SEND, or a WAIT or WAITALL of one, has in a5 if the message is buffered by whoever sends it: the eight letters of
+/// `buffered`.
 const BUFFERED: u64 = 0x6465_7265_6666_7562;
 
-/// Whether the call that the hart made wasn't refused, for its code in a0 is 0, and doesn't say in a5 that it is buffered.
+/// Whether the hart says in a5 that the messages of the call that its registers spell are buffered. Then none of them waits for
+/// its receive.
+pub fn says_buffered(hart: &Hart) -> bool
+    ensures { result ≡ says_buffered_of hart.now }
+{
+    hart.get(Reg::new(15)) == BUFFERED
+}
+
+/// Whether the call that the hart made wasn't refused, for its code in a0 is 0, and doesn't say that it is buffered.
 fn may_wait_for_receipt(hart: &Hart) -> bool
     ensures { result ≡ may_wait_of hart.now }
 {
-    hart.get(Reg::new(10)) == 0 && hart.get(Reg::new(15)) != BUFFERED
+    hart.get(Reg::new(10)) == 0 && !says_buffered(hart)
 }
 
 /// Whether the hart stands behind a call: the word before the one at its pc is an ECALL.
@@ -92,34 +72,91 @@ fn send_behind(own: &RankState) -> Option<Sending>
     }
 }
 
-/// The rank that is to receive what the rank's first hart rests behind, if it rests.
-pub(crate) fn receiver(standing: &Standing, rank: u8) -> Option<u8>
-    ensures { IsReceiverAt standing.now rank result }
+/// Whether the rank's first hart rests behind a SEND of such a message.
+fn rests_behind(sought: &Sought<'_>, own: &RankState) -> bool
+    ensures { TellsBehind sought.now (rank_of own.now) result }
 {
-    let place = usize::from(rank);
-    if place >= standing.cluster.ranks.len() {
-        return None;
-    }
-    let own = &standing.cluster.ranks[place];
-    let Some(sending) = send_behind(own) else {
-        return None;
-    };
-    let members = own.site.members(sending.comm);
-    if sending.dest >= members.len() as u64 {
-        return None;
-    }
-    let lines = standing.whole.board().lines();
-    if has_unreceived(&own.site, rank, &sending, lines) {
-        Some(members[sending.dest as usize])
-    } else {
-        None
+    match send_behind(own) {
+        None => false,
+        Some(sending) => sought.finds_any_sent(&own.site, &sending),
     }
 }
 
-/// Whether the rank has just made a SEND whose message no receive or matched probe has taken: its first hart is at the
-/// instruction behind the call.
+/// Whether the handle is that of a standard send of such a message.
+fn finds_handle(sought: &Sought<'_>, requests: &Requests, handle: u64) -> bool
+    ensures { result ≡ is_sought_handle sought.now requests.now handle }
+{
+    sought.finds_post(post_of_send(&requests.get(handle)))
+}
+
+/// Whether one of these handles is.
+fn finds_any_handle(sought: &Sought<'_>, requests: &Requests, handles: &[u64]) -> bool
+    ensures { result ≡ list_any (is_sought_handle sought.now requests.now) handles.now }
+{
+    handles
+        .iter()
+        .any(|handle| finds_handle(sought, requests, *handle))
+}
+
+/// Whether a turn of the rank's first hart is a WAIT or WAITALL of such a handle.
+fn waits_for(sought: &Sought<'_>, own: &RankState, doing: &Doing) -> bool
+    requires { IsNext own.now 0 doing.now }
+    ensures { result
+        ≡ list_any (is_sought_handle sought.now own.now.requests) (handles_in own.now.memory doing.now) }
+{
+    // no room for handles is taken for any other turn: most are
+    if !is_wait(doing) {
+        return false;
+    }
+    let handles = handles_waited_for(own, doing);
+    finds_any_handle(sought, &own.requests, handles.as_slice())
+}
+
+/// Whether the rank's first hart rests before a WAIT or WAITALL of such a message.
+fn rests_before(sought: &Sought<'_>, own: &RankState) -> bool
+    requires { 0 < vec_len own.now.harts }
+    ensures { TellsBefore sought.now (rank_of own.now) result }
+{
+    !says_buffered(&own.harts[0]) && waits_for(sought, own, &own.next(0))
+}
+
+/// Whether the rank's first hart rests for such a message.
+fn rests_in(sought: &Sought<'_>, own: &RankState) -> bool
+    ensures { TellsIn sought.now (rank_of own.now) result }
+{
+    if own.harts.len() == 0 {
+        return false;
+    }
+    rests_behind(sought, own) || rests_before(sought, own)
+}
+
+/// Whether the rank rests until one of these receives, or until any rank does if none are given.
+fn rests_to(standing: &Standing, rank: u8, to: Option<&[u8]>) -> bool
+    ensures { TellsRestsTo standing.now rank (option_map (λ ranks. ranks.now) to.entry) result }
+{
+    let place = usize::from(rank);
+    if place >= standing.cluster.ranks.len() {
+        return false;
+    }
+    let sought = Sought {
+        lines: standing.whole.board().lines(),
+        from: rank,
+        to,
+    };
+    rests_in(&sought, &standing.cluster.ranks[place])
+}
+
+/// Whether the rank rests until one of these receives.
+pub(crate) fn rests_beside(among: &[u8], standing: &Standing, rank: u8) -> bool
+    ensures { TellsRestsBeside among.now standing.now rank result }
+{
+    rests_to(standing, rank, Some(among))
+}
+
+/// Whether the rank waits for the receive of a standard send, where such sends wait: neither a receive nor a matched probe has
+/// the message, and the rank's first hart is right behind the SEND, or before a WAIT or WAITALL of it.
 pub fn rests(standing: &Standing, rank: u8) -> bool
     ensures { IsRestAt standing.now rank result }
 {
-    receiver(standing, rank).is_some()
+    rests_to(standing, rank, None)
 }

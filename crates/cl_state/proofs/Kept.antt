@@ -7,7 +7,7 @@ use Rattle.mp_types.specs.declared.replies.Reply.TheVariants as reply
 use Rattle.mp_request.specs.declared.entries.OpenRequest.{OpenRequest}
 use Rattle.mp_request.specs.declared.entries.Partitions.{Partitions}
 use Rattle.mp_request.specs.declared.entries.Progress.{Progress}
-use Rattle.mp_request.specs.declared.entries.Progress.TheVariants.{Finished, OnPost, InPhase}
+use Rattle.mp_request.specs.declared.entries.Progress.TheVariants.{Finished, Sent, OnPost, InPhase}
 use Rattle.mp_request.specs.declared.entries.Transfer.{Transfer}
 use Rattle.mp_request.specs.Table.{lowest_free}
 use Rattle.cl_calls.specs.declared.calls.Several.{Several}
@@ -98,6 +98,7 @@ kept_arrived site side target part = kept_arrived_from _ side target part
 pub kept_begun : (site : Site) (why : Purpose) (t : Transfer) (p : Progress) (part : Part)
     → (done site (begun_outcome why t p) part).phases ≡ part.phases
 kept_begun site purpose.Send t Finished part = refl
+kept_begun site purpose.Send t (Sent post) part = refl
 kept_begun site purpose.Send t (OnPost post) part = refl
 kept_begun site purpose.Send t InPhase part = refl
 kept_begun site purpose.Open t p part = kept_opened _ part

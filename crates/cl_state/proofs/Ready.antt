@@ -2,7 +2,7 @@
 use Rattle.std.proofs.Common.{ℕ, refl, subst, true, false, Bool, Option, Some, None}
 use Rattle.mp_request.specs.declared.entries.OpenRequest.{OpenRequest}
 use Rattle.mp_request.specs.declared.entries.Progress.{Progress}
-use Rattle.mp_request.specs.declared.entries.Progress.TheVariants.{Finished, OnPost, InPhase}
+use Rattle.mp_request.specs.declared.entries.Progress.TheVariants.{Finished, Sent, OnPost, InPhase}
 use Rattle.mp_request.specs.declared.entries.Transfer.{Transfer}
 use Rattle.mp_request.specs.declared.entries.Transfer.TheVariants as transfer
 use Rattle.mp_request.specs.Table.{request_at}
@@ -50,6 +50,7 @@ IsMeant turn _ = Unit {0}
 pub able_begun : (turn : Turn) (why : Purpose) (t : Transfer) (p : Progress) → IsMeant turn why
     → IsAble turn (begun_outcome why t p)
 able_begun turn purpose.Send t Finished meant = tt
+able_begun turn purpose.Send t (Sent post) meant = tt
 able_begun turn purpose.Send t (OnPost post) meant = tt
 able_begun turn purpose.Send t InPhase meant = tt
 able_begun turn purpose.Open t p meant = refl

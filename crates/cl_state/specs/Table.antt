@@ -58,6 +58,7 @@ use Rattle.cl_state.specs.Several.{pendings, posts_pending, has_posts}
 -- its post, a request is opened as an ordinary one (MPI 4.1, 3.7.2) or started (3.9)
 abbrev pub begun_outcome : Purpose → Transfer → Progress → Outcome
 begun_outcome purpose.Send t progress.Finished = Ends code.Ok 0
+begun_outcome purpose.Send t (progress.Sent post) = Ends code.Ok 0
 begun_outcome purpose.Send t (progress.OnPost post) = Waits post
 begun_outcome purpose.Send t progress.InPhase = Ends code.BadRequest 0
 begun_outcome purpose.Open t p = Opens (record { transfer = t; state = state.Ordinary p })

@@ -1,9 +1,9 @@
 -- What a call transfers, what the hub is asked for it, and how far it is once it has its post.
-use Rattle.std.specs.Prelude.{ℕ, ◌==◌, if◌then◌else◌, Option, Some, None, Bool, not, ◌&&◌}
+use Rattle.std.specs.Prelude.{ℕ, ◌==◌, if◌then◌else◌, Option, Some, None, Bool, true, false}
 use Rattle.rv_memory.specs.Memory.{Memory, bytes_at}
 use Rattle.mp_types.specs.declared.requests.Request.TheVariants as request
 use Rattle.mp_request.specs.declared.entries.Progress.{Progress}
-use Rattle.mp_request.specs.declared.entries.Progress.TheVariants.{Finished, OnPost}
+use Rattle.mp_request.specs.declared.entries.Progress.TheVariants.{Finished, Sent, OnPost}
 use Rattle.mp_request.specs.declared.entries.Transfer.{Transfer}
 use Rattle.mp_request.specs.declared.entries.Transfer.TheVariants.{SendToNull, ReceiveFromNull, Send, Receive}
 use Rattle.mp_request.specs.declared.entries.Transfer.TheVariants.{ReceiveClaimed, SendPartitions, ReceivePartitions}
@@ -54,7 +54,8 @@ asked_claimed now m = if (m.message == no_message) then ask.Local else ask.Hub (
 
 -- a standard send is complete at once, a synchronous one when it is paired with a receive (3.4)
 abbrev pub sent_on : Bool → ℕ → Bool → Progress
-sent_on sync post done = if sync && not done then OnPost post else Finished
+sent_on false post done = Sent post
+sent_on true post done = if done then Finished else OnPost post
 
 -- how far a transfer is once it has its post
 abbrev pub posted : Transfer → ℕ → Bool → Progress

@@ -102,7 +102,7 @@ fn at(progress: Progress, transfer: &Transfer) -> Pending
     ensures { result ≡ pending_at progress transfer.now }
 {
     match progress {
-        Progress::Finished => match *transfer {
+        Progress::Finished | Progress::Sent(_) => match *transfer {
             Transfer::ReceiveFromNull => Pending::FromNull,
             _ => Pending::Nothing,
         },

@@ -9,7 +9,8 @@ fn is_same_progress(a: Progress, b: Progress) -> bool
 {
     match (a, b) {
         (Progress::Finished, Progress::Finished) => true,
-        (Progress::OnPost(post), Progress::OnPost(other)) => post == other,
+        (Progress::Sent(post), Progress::Sent(other))
+        | (Progress::OnPost(post), Progress::OnPost(other)) => post == other,
         (Progress::InPhase, Progress::InPhase) => true,
         _ => false,
     }

@@ -39,7 +39,7 @@ pub(crate) fn begun(why: Purpose, transfer: Transfer, progress: Progress) -> Out
 {
     match why {
         Purpose::Send => match progress {
-            Progress::Finished => Outcome::Ends(Code::Ok, 0),
+            Progress::Finished | Progress::Sent(_) => Outcome::Ends(Code::Ok, 0),
             Progress::OnPost(post) => Outcome::Waits(post),
             Progress::InPhase => Outcome::Ends(Code::BadRequest, 0),
         },

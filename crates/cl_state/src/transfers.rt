@@ -207,16 +207,19 @@ pub(crate) struct Posted {
 }
 
 impl Posted {
-    /// How far a transfer is once it has its post: a synchronous send waits until it is paired with a receive.
+    /// How far a transfer is once it has its post: a standard send is complete, and a synchronous one waits until
+    /// it is paired with a receive.
     pub(crate) fn progress(self, transfer: &Transfer) -> Progress
         ensures { result ≡ posted_by transfer.now self.post self.done }
     {
         match *transfer {
             Transfer::Send { sync, .. } => {
-                if sync && !self.done {
-                    Progress::OnPost(self.post)
-                } else {
+                if !sync {
+                    Progress::Sent(self.post)
+                } else if self.done {
                     Progress::Finished
+                } else {
+                    Progress::OnPost(self.post)
                 }
             }
             _ => Progress::OnPost(self.post),

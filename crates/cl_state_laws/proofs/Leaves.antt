@@ -426,6 +426,7 @@ left_done i site (outcome.Arrives side target) part call =
 left_begun : (i : ℕ) (site : Site) (why : Purpose) (t : Transfer) (p : Progress) (part : Part)
     → Leaves i [] part (done site (begun_outcome why t p) part)
 left_begun i site purpose.Send t progress.Finished part = ends_so i [] code.Ok 0 part
+left_begun i site purpose.Send t (progress.Sent post) part = ends_so i [] code.Ok 0 part
 left_begun i site purpose.Send t (progress.OnPost post) part =
     record { hart = is_waiting (Post post) refl; byte = λ past. refl }
 left_begun i site purpose.Send t progress.InPhase part = ends_so i [] code.BadRequest 0 part
@@ -488,6 +489,7 @@ if_no_step false x y p q = q
 
 begun_no_step : (why : Purpose) (t : Transfer) (p : Progress) → IsNoStepRow (AtOnce (begun_outcome why t p))
 begun_no_step purpose.Send t progress.Finished = tt
+begun_no_step purpose.Send t (progress.Sent post) = tt
 begun_no_step purpose.Send t (progress.OnPost post) = tt
 begun_no_step purpose.Send t progress.InPhase = tt
 begun_no_step purpose.Open t p = tt

@@ -12,7 +12,7 @@ use Rattle.mp_request.specs.Entries.{active_with, is_persistent, remainder}
 use Rattle.mp_request.specs.declared.entries.OpenRequest.{OpenRequest}
 use Rattle.mp_request.specs.declared.entries.Partitions.{Partitions}
 use Rattle.mp_request.specs.declared.entries.Progress.{Progress}
-use Rattle.mp_request.specs.declared.entries.Progress.TheVariants.{Finished, OnPost, InPhase}
+use Rattle.mp_request.specs.declared.entries.Progress.TheVariants.{Finished, Sent, OnPost, InPhase}
 use Rattle.mp_request.specs.declared.entries.State.TheVariants.{Inactive}
 use Rattle.mp_request.specs.declared.entries.Transfer.{Transfer}
 use Rattle.mp_request.specs.declared.entries.Transfer.TheVariants as transfer
@@ -219,6 +219,7 @@ module _ (site : Site) where
 
   opens_begun : (why : Purpose) (t : Transfer) (p : Progress) → IsInside site t → Opens (begun_outcome why t p)
   opens_begun purpose.Send t Finished fits = tt
+  opens_begun purpose.Send t (Sent post) fits = tt
   opens_begun purpose.Send t (OnPost post) fits = tt
   opens_begun purpose.Send t InPhase fits = tt
   opens_begun purpose.Open t p fits = fits

@@ -341,6 +341,7 @@ module _ (told : Type 0) (site : Site) (p : Part) where
   begun_outcome_left : (why : Purpose) (t : Transfer) (pr : Progress) → Leaves told (done site (begun_outcome why t pr)) p
   unfolding returned
   begun_outcome_left purpose.Send t progress.Finished = ended_left told code.Ok 0 p
+  begun_outcome_left purpose.Send t (progress.Sent post) = ended_left told code.Ok 0 p
   begun_outcome_left purpose.Send t (progress.OnPost post) = record { same = refl; still = λ h again. absurd (cc) }
   begun_outcome_left purpose.Send t progress.InPhase = ended_left told code.BadRequest 0 p
   begun_outcome_left purpose.Open t pr = opened_left told (lowest_free p.requests) _ p

@@ -7,7 +7,7 @@ use Rattle.cl_state_laws.specs.RequestRows.{ProbeRow, ReceiveRow, SsendRow, Test
 
 pub open_row : OpenRow
 unfolding asked told doing returned
-open_row = (refl, refl, refl, refl, refl, refl, refl)
+open_row = (refl, refl, refl, refl, refl, refl, refl, refl)
 
 pub full : FullRow
 unfolding asked told doing returned

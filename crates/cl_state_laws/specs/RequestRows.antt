@@ -11,7 +11,7 @@ use Rattle.mp_types.specs.declared.replies.Reply.TheVariants as reply
 use Rattle.mp_types.specs.declared.requests.Request.TheVariants as request
 use Rattle.mp_request.specs.declared.entries.OpenRequest.{OpenRequest}
 use Rattle.mp_request.specs.declared.entries.Progress.{Progress}
-use Rattle.mp_request.specs.declared.entries.Progress.TheVariants.{Finished, OnPost}
+use Rattle.mp_request.specs.declared.entries.Progress.TheVariants.{Finished, Sent, OnPost}
 use Rattle.mp_request.specs.declared.entries.State.TheVariants.{Ordinary, Inactive, Active}
 use Rattle.mp_request.specs.declared.entries.Transfer.{Transfer}
 use Rattle.mp_request.specs.declared.entries.Transfer.TheVariants.{SendToNull, ReceiveFromNull, Send, Receive}
@@ -73,7 +73,7 @@ isend table number = holder table (9 ∷ 2 ∷ 1 ∷ 7 ∷ 0 ∷ []) number
 
 -- the lowest free handle is given: 3 where 1, 2 and 4 are open
 abbrev pub three : Option OpenRequest → Table
-three third = table_of (ordinary send Finished ∷ inactive send ∷ third ∷ ordinary receive (OnPost 2) ∷ [])
+three third = table_of (ordinary send (Sent 1) ∷ inactive send ∷ third ∷ ordinary receive (OnPost 2) ∷ [])
 
 abbrev pub OpenRow : Type 0
 OpenRow =
@@ -82,15 +82,17 @@ OpenRow =
     ≡ ended_with 0 3 (three (ordinary receive (OnPost 5))) (any ∷ any ∷ 0 ∷ []) 21)
     × (asked (isend (three None) 19) 0 ≡ Ask.Hub (request.Send false 0 1 7 (105 ∷ 10 ∷ [])))
     × (replied (isend (three None) 19) (reply.Posted 5 true)
-    ≡ ended_with 0 3 (three (ordinary send Finished)) (1 ∷ 7 ∷ 0 ∷ []) 19)
+    ≡ ended_with 0 3 (three (ordinary send (Sent 5))) (1 ∷ 7 ∷ 0 ∷ []) 19)
     × (asked (isend (three None) 20) 0 ≡ Ask.Hub (request.Send true 0 1 7 (105 ∷ 10 ∷ [])))
     × (replied (isend (three None) 20) (reply.Posted 5 false)
     ≡ ended_with 0 3 (three (ordinary (Send true 9 2 1 7 0) (OnPost 5))) (1 ∷ 7 ∷ 0 ∷ []) 20)
+    × (replied (isend (three None) 20) (reply.Posted 5 true)
+    ≡ ended_with 0 3 (three (ordinary (Send true 9 2 1 7 0) Finished)) (1 ∷ 7 ∷ 0 ∷ []) 20)
     × (replied (isend (three None) 20) (reply.Code code.Full) ≡ ended_with 8 0 (three None) (1 ∷ 7 ∷ 0 ∷ []) 20)
 
 -- with 255 handles open no request is opened: code 8, and nobody is asked
 abbrev pub full : Table
-full = replicate 255 (ordinary send Finished)
+full = replicate 255 (ordinary send (Sent 1))
 
 abbrev pub FullRow : Type 0
 FullRow =
@@ -122,8 +124,8 @@ TestRow =
     × (told (completing no_requests 0 22) 0 Answer.Alone 9 ≡ complete_empty no_requests)
     × (asked (completing (one (inactive receive)) 1 22) 0 ≡ Ask.Local)
     × (told (completing (one (inactive receive)) 1 22) 0 Answer.Alone 9 ≡ complete_empty (one (inactive receive)))
-    × (asked (completing (one (ordinary send Finished)) 1 22) 0 ≡ Ask.Local)
-    × (told (completing (one (ordinary send Finished)) 1 22) 0 Answer.Alone 9 ≡ complete_empty no_requests)
+    × (asked (completing (one (ordinary send (Sent 1))) 1 22) 0 ≡ Ask.Local)
+    × (told (completing (one (ordinary send (Sent 1))) 1 22) 0 Answer.Alone 9 ≡ complete_empty no_requests)
 
 -- a receive is asked for its message: without one flag 0, and
 -- nothing is written; with one flag 1, and the handle is free
@@ -248,7 +250,7 @@ PersistentRow =
     (asked (isend no_requests 30) 0 ≡ Ask.Local)
     × (told (isend no_requests 30) 0 Answer.Alone 9 ≡ ended_with 0 1 (one (inactive send)) (1 ∷ 7 ∷ 0 ∷ []) 30)
     × (asked (starting (inactive send) 32) 0 ≡ Ask.Hub (request.Send false 0 1 7 (105 ∷ 10 ∷ [])))
-    × (replied (starting (inactive send) 32) (reply.Posted 5 true) ≡ ended_with 0 0 (one (active send Finished)) [] 32)
+    × (replied (starting (inactive send) 32) (reply.Posted 5 true) ≡ ended_with 0 0 (one (active send (Sent 5))) [] 32)
     ×
     (replied (starting (inactive receive) 32) (reply.Posted 5 false)
     ≡ ended_with 0 0 (one (active receive (OnPost 5))) [] 32)
@@ -257,7 +259,7 @@ PersistentRow =
     ×
     (told (starting (inactive SendToNull) 32) 0 Answer.Alone 9
     ≡ ended_with 0 0 (one (active SendToNull Finished)) [] 32)
-    × (told (completing (one (active send Finished)) 1 22) 0 Answer.Alone 9 ≡ complete_empty (one (inactive send)))
+    × (told (completing (one (active send (Sent 5))) 1 22) 0 Answer.Alone 9 ≡ complete_empty (one (inactive send)))
     × (told (starting (inactive send) 33) 0 Answer.Alone 9 ≡ ended_with 0 0 no_requests [] 33)
 
 -- ---- the first check that fails, of a rank whose handle 1 is an ordinary receive, 2 an inactive one and 3 an active

@@ -8,7 +8,7 @@ use Rattle.mp_types.specs.declared.codes.Code.TheVariants as code
 use Rattle.mp_types.specs.declared.messages.Message.{Message}
 use Rattle.mp_types.specs.declared.replies.Reply.TheVariants as reply
 use Rattle.mp_types.specs.declared.requests.Request.TheVariants as request
-use Rattle.mp_request.specs.declared.entries.Progress.TheVariants.{Finished, OnPost}
+use Rattle.mp_request.specs.declared.entries.Progress.TheVariants.{Finished, Sent, OnPost}
 use Rattle.mp_request.specs.declared.entries.Transfer.{Transfer}
 use Rattle.mp_request.specs.declared.entries.Transfer.TheVariants.{ReceiveFromNull, Receive}
 use Rattle.mp_request.specs.Table.{Table, no_requests}
@@ -56,7 +56,7 @@ abbrev pub receive_at : ℕ → Transfer
 receive_at buffer = Receive buffer 4 None None 0
 
 abbrev pub done_and_pending : Table
-done_and_pending = table_of (ordinary send Finished ∷ ordinary (receive_at 40) (OnPost 3) ∷ [])
+done_and_pending = table_of (ordinary send (Sent 2) ∷ ordinary (receive_at 40) (OnPost 3) ∷ [])
 
 abbrev pub two_pending : Table
 two_pending = table_of (active (receive_at 40) (OnPost 3) ∷ ordinary (receive_at 44) (OnPost 4) ∷ [])

@@ -200,6 +200,7 @@ by_arrived site side target part right = go _
 by_begun : (site : Site) (why : Purpose) (t : Transfer) (p : Progress) (part : Part) → IsRightTransfer t
     → IsRightPart part → IsRightPart (done site (begun_outcome why t p) part)
 by_begun site purpose.Send t progress.Finished part fits right = right
+by_begun site purpose.Send t (progress.Sent post) part fits right = right
 by_begun site purpose.Send t (progress.OnPost post) part fits right = right
 by_begun site purpose.Send t progress.InPhase part fits right = right
 by_begun site purpose.Open t p part fits right = by_opened (lowest_free part.requests) _ part fits right
@@ -357,6 +358,7 @@ row_or false x y p q = q
 
 begun_right : (why : Purpose) (t : Transfer) (p : Progress) → IsRightTransfer t → OpensRight (begun_outcome why t p)
 begun_right purpose.Send t progress.Finished fits = tt
+begun_right purpose.Send t (progress.Sent post) fits = tt
 begun_right purpose.Send t (progress.OnPost post) fits = tt
 begun_right purpose.Send t progress.InPhase fits = tt
 begun_right purpose.Open t p fits = fits

@@ -1,5 +1,5 @@
 -- Wherever a run leads, ranks ask only about posts that aren't over.
-use Rattle.std.proofs.Common.{◌≡◌, ◌∙◌, ℕ, zero, suc, inl, inr, refl, sym, ap, subst, true, List, [], ◌∷◌, ◌++◌, length, Option, Some, None}
+use Rattle.std.proofs.Common.{◌≡◌, ◌∙◌, ℕ, zero, suc, inl, inr, refl, sym, ap, subst, Bool, List, [], ◌∷◌, ◌++◌, length, Option, Some, None}
 use Rattle.std.specs.Prelude.{map, replicate}
 use Rattle.std.specs.List.{slice_get, slice_set}
 use Rattle.std.specs.Option.{option_map}
@@ -13,8 +13,8 @@ use Rattle.mp_match.specs.Board.{Board}
 use Rattle.mp_request.specs.declared.entries.OpenRequest.{OpenRequest}
 use Rattle.mp_wait_laws.proofs.Sets.{get-set_other}
 use Rattle.mp_wait_laws.proofs.Waits.{laid_after}
-use Rattle.mp_alike_laws.specs.Renaming.{Renaming}
-use Rattle.cl_names_laws.specs.Named.{hart_by, rank_by, table_by}
+use Rattle.mp_alike_laws.specs.Renaming.{Renaming, number_by}
+use Rattle.cl_names_laws.specs.Named.{hart_by, rank_with, table_with}
 use Rattle.cl_journal.specs.Journal.{calls_of}
 use Rattle.cl_state.specs.declared.asking.Answer.{Answer}
 use Rattle.cl_state.specs.declared.asking.Answer.TheVariants as answer
@@ -34,66 +34,74 @@ use Rattle.cl_order_laws.proofs.SureHub.{reply_is}
 use Rattle.cl_order_laws.proofs.Walks.{hub_entry}
 use Rattle.cl_deadlock_laws.proofs.Reached.{deed_of}
 use Rattle.cl_post_laws.specs.Laws.{TellsOnly}
-use Rattle.cl_post_laws.specs.Names.{NamesOnly}
+use Rattle.cl_post_laws.specs.Names.{IsSameBy, as_before}
 use Rattle.cl_post_laws.proofs.Asking.{asks as asks_of_named}
-use Rattle.cl_post_laws.proofs.Renamed.{only}
 use Rattle.cl_reduction_laws.specs.Below.{AskOfLive}
-use Rattle.cl_reduction_laws.specs.Clusters.{may_be_named}
-use Rattle.cl_reduction_laws.proofs.Naming.{asks_of_live, named_inside, names_more}
+use Rattle.cl_reduction_laws.specs.Clusters.{NamesRightly, may_be_awaited}
+use Rattle.cl_reduction_laws.proofs.Naming.{Grows, asks_of_live, awaited_inside, grows_same, rightly_more, rightly_told}
 use Rattle.cl_verdict_laws.specs.Live.{LiveLaw, NamesLaw, NamesLive}
-use Rattle.cl_verdict_laws.proofs.Naming.{named_on, names_on}
+use Rattle.cl_verdict_laws.proofs.Naming.{grown_by, names_on}
 
 -- ---- the loaded cluster names none
 
-no_open : (names : Renaming) (n : ℕ) → (let none : List (Option OpenRequest) = replicate n None in table_by names none ≡ none)
-no_open names zero = refl
-no_open names (suc n) =
-    ap (λ (os : List (Option OpenRequest)). (let more : List (Option OpenRequest) = None ∷ os in more)) (no_open names n)
+module _ (names : Renaming) (sends : ℕ → ℕ) where
+  no_open : (n : ℕ) → (let none : List (Option OpenRequest) = replicate n None in table_with names sends none ≡ none)
+  no_open zero = refl
+  no_open (suc n) =
+      ap (λ (os : List (Option OpenRequest)). (let more : List (Option OpenRequest) = None ∷ os in more)) (no_open n)
 
-start_same : (names : Renaming) (image : ImageParts) (rank n : ℕ)
-    → map (hart_by names) (start_harts image rank n) ≡ start_harts image rank n
-start_same names image rank zero = refl
-start_same names image rank (suc n) =
-    map-append (hart_by names) (start_harts image rank n) (start_state image.entry image.memory n rank ∷ [])
-    ∙ ap (λ hs. hs ++ start_state image.entry image.memory n rank ∷ []) (start_same names image rank n)
+  start_same : (image : ImageParts) (rank n : ℕ)
+      → map (hart_by names) (start_harts image rank n) ≡ start_harts image rank n
+  start_same image rank zero = refl
+  start_same image rank (suc n) =
+      map-append (hart_by names) (start_harts image rank n) (start_state image.entry image.memory n rank ∷ [])
+      ∙ ap (λ hs. hs ++ start_state image.entry image.memory n rank ∷ []) (start_same image rank n)
 
-loaded_same : (names : Renaming) (image : ImageParts) (k : ℕ) → rank_by names (loaded image k) ≡ loaded image k
-loaded_same names image k =
-    let harts = start_same names image k image.harts in
-    let table = no_open names 255 in
-    (λ i. record (loaded image k) { harts = harts i; requests = table i })
+  loaded_same : (image : ImageParts) (k : ℕ) → rank_with names sends (loaded image k) ≡ loaded image k
+  loaded_same image k =
+      let harts = start_same image k image.harts in
+      let table = no_open 255 in
+      (λ i. record (loaded image k) { harts = harts i; requests = table i })
 
-names_none : (image : ImageParts) → NamesLive (loaded_cluster image)
-names_none image r rank there names fixed =
+none_of : (sends : Renaming → ℕ → ℕ) (set : ℕ → Bool) (image : ImageParts) (r : ℕ) (rank : Rank)
+    → slice_get (loaded_cluster image).ranks r ≡ Some rank → IsSameBy sends set rank
+none_of sends set image r rank there names keeps =
     go (slice_get (below image.ranks) r) (sym (slice_get-map (loaded image) (below image.ranks) r) ∙ there)
   where
-    go : (o : Option ℕ) → option_map (loaded image) o ≡ Some rank → rank_by names rank ≡ rank
+    go : (o : Option ℕ) → option_map (loaded image) o ≡ Some rank → rank_with names (sends names) rank ≡ rank
     go None e = absurd (cc)
     go (Some k) e =
-        subst (λ x. rank_by names x ≡ x) (same_Some (loaded image k) rank e) (loaded_same names image k)
+        subst (λ x. rank_with names (sends names) x ≡ x) (same_Some (loaded image k) rank e)
+        (loaded_same names (sends names) image k)
+
+names_none : (image : ImageParts) → NamesLive (loaded_cluster image)
+names_none image r rank there = record {
+  names = none_of number_by _ image r rank there;
+  awaits = none_of as_before _ image r rank there;
+}
 
 -- ---- a step
 
 -- what is left of a rank and of the hub by a deed of the rank
-module _ (r hart stamp : ℕ) (old : Journal) (rank : Rank) (names : NamesOnly (may_be_named (hub_of old).board.lines) rank) where
+module _ (r hart stamp : ℕ) (old : Journal) (rank : Rank) (names : NamesRightly (hub_of old).board.lines rank) where
   abbrev Left : Journal → Answer → Type 0
   Left new a =
-      ((place : ℕ) → may_be_named (hub_of old).board.lines place ≡ true → may_be_named (hub_of new).board.lines place ≡ true)
-      × NamesOnly (may_be_named (hub_of new).board.lines) (told rank hart a stamp)
+      Grows (hub_of old).board.lines (hub_of new).board.lines
+      × NamesRightly (hub_of new).board.lines (told rank hart a stamp)
 
   -- the hub stays, and the answer tells of no post
   alone : (new : Journal) (a : Answer) → new ≡ old
-      → NamesOnly (may_be_named (hub_of old).board.lines) (told rank hart a stamp) → Left new a
+      → NamesRightly (hub_of old).board.lines (told rank hart a stamp) → Left new a
   alone new a same named = (
-    λ place is. ap (λ j. may_be_named (hub_of j).board.lines place) same ∙ is,
-    subst (λ j. NamesOnly (may_be_named (hub_of j).board.lines) (told rank hart a stamp)) (sym same) named,
+    grows_same (hub_of old).board.lines (hub_of new).board.lines (ap (λ j. (hub_of j).board.lines) same),
+    subst (λ j. NamesRightly (hub_of j).board.lines (told rank hart a stamp)) (sym same) named,
   )
 
-  stays : (a : Answer) → TellsOnly (may_be_named (hub_of old).board.lines) a
-      → NamesOnly (may_be_named (hub_of old).board.lines) (told rank hart a stamp)
+  stays : (a : Answer) → TellsOnly (may_be_awaited (hub_of old).board.lines) a
+      → NamesRightly (hub_of old).board.lines (told rank hart a stamp)
   stays a tells =
-      only (may_be_named (hub_of old).board.lines) (may_be_named (hub_of old).board.lines) rank hart a stamp
-      (λ place named. named) names tells
+      rightly_told (hub_of old).board.lines (hub_of old).board.lines rank hart a stamp
+      (grows_same (hub_of old).board.lines (hub_of old).board.lines refl) names tells
 
   left : (d : Deed) → d.rank ≡ r → (act : Act) (new : Journal) → Suits (asked rank hart) act
       → JournalMoves old (entry_for d act) new → Left new (answer_of act)
@@ -111,9 +119,9 @@ module _ (r hart stamp : ℕ) (old : Journal) (rank : Rank) (names : NamesOnly (
       let k = outcome h d.rank q in
       let hubs : hub_of new ≡ k.1 = ap hub_of moves.2 ∙ hub_entry old _ in
       let replied : x ≡ k.0 = moves.0 ∙ reply_is old d.rank q in (
-        λ place named. ap (λ (g : HubView). may_be_named g.board.lines place) hubs ∙ named_on h d.rank q place named,
-        subst (λ (g : HubView). NamesOnly (may_be_named g.board.lines) (told rank hart (answer.Reply x) stamp)) (sym hubs)
-            (subst (λ y. NamesOnly (may_be_named k.1.board.lines) (told rank hart (answer.Reply y) stamp)) (sym replied)
+        subst (λ (g : HubView). Grows h.board.lines g.board.lines) (sym hubs) (grown_by h d.rank q),
+        subst (λ (g : HubView). NamesRightly g.board.lines (told rank hart (answer.Reply x) stamp)) (sym hubs)
+            (subst (λ y. NamesRightly k.1.board.lines (told rank hart (answer.Reply y) stamp)) (sym replied)
             (names_on h (laid_after old.links (calls_of old.entries)) d.rank q rank hart stamp suits names)),
       )
 
@@ -129,14 +137,14 @@ names_goes old new d names goes r rank there =
         (goes.0).3.2 goes.1
 
     by_rank : slice_get (slice_set old.ranks d.rank (goes.0).1) r ≡ Some rank
-        → NamesOnly (may_be_named (hub_of new.journal).board.lines) rank
+        → NamesRightly (hub_of new.journal).board.lines rank
     by_rank here = elim (cases_eq d.rank r) [
       | inl same ↦
           let w = was_there old.ranks d.rank (goes.0).1 rank
           (subst (λ k. slice_get (slice_set old.ranks d.rank (goes.0).1) k ≡ Some rank) (sym same) here) in
-          subst (NamesOnly (may_be_named (hub_of new.journal).board.lines)) (sym (goes.0).3.4 ∙ w.0) after.1
+          subst (NamesRightly (hub_of new.journal).board.lines) (sym (goes.0).3.4 ∙ w.0) after.1
       | inr other ↦
-          names_more (hub_of old.journal).board.lines (hub_of new.journal).board.lines rank after.0
+          rightly_more (hub_of old.journal).board.lines (hub_of new.journal).board.lines rank after.0
           (names r rank (sym (get-set_other old.ranks d.rank r (goes.0).1 other) ∙ here))
     ]
 
@@ -157,13 +165,14 @@ live_law image c reached r rank hart there = go (asked rank hart) refl
     board : Board
     board = (hub_of c.journal).board
 
-    names : NamesOnly (may_be_named board.lines) rank
+    names : NamesRightly board.lines rank
     names = names_law image c reached r rank there
 
     go : (q : Ask) → asked rank hart ≡ q → AskOfLive c q
     go (Ask.Hub q) is =
         asks_of_live board q
-        (asks_of_named (may_be_named board.lines) (length board.lines) (named_inside board.lines) rank hart q names is)
+        (asks_of_named (may_be_awaited board.lines) (length board.lines) (awaited_inside board.lines) rank hart q
+        names.awaits is)
     go Ask.Plain is = tt
     go Ask.Local is = tt
     go Ask.Held is = tt

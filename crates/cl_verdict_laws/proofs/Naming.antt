@@ -1,5 +1,5 @@
 -- Which posts a rank may have to name after any call.
-use Rattle.std.proofs.Common.{◌≡◌, ◌∙◌, ℕ, inl, inr, ap, Bool, true, false, cond, List, Option, Some, None}
+use Rattle.std.proofs.Common.{◌≡◌, ℕ, inl, inr, subst, sym, Bool, true, false, cond, List, Option, Some, None}
 use Rattle.mp_types.specs.declared.codes.Code.TheVariants as code
 use Rattle.mp_types.specs.declared.replies.Reply.{Reply}
 use Rattle.mp_types.specs.declared.replies.Reply.TheVariants as reply
@@ -18,23 +18,19 @@ use Rattle.cl_state.specs.Asked.{asked}
 use Rattle.cl_state.specs.Rank.{Rank}
 use Rattle.cl_state.specs.Told.{told}
 use Rattle.cl_post_laws.specs.Laws.{TellsOnly}
-use Rattle.cl_post_laws.specs.Names.{NamesOnly}
-use Rattle.cl_post_laws.proofs.Renamed.{only}
-use Rattle.cl_reduction_laws.specs.Clusters.{may_be_named}
+use Rattle.cl_reduction_laws.specs.Clusters.{NamesRightly, may_be_awaited}
 use Rattle.cl_reduction_laws.proofs.Good.{names_told}
-use Rattle.cl_reduction_laws.proofs.Naming.{named_added}
+use Rattle.cl_reduction_laws.proofs.Naming.{Grows, grows_added, grows_same, rightly_told}
 
 -- ---- what was named stays so
 
-grown : (r : ℕ) (old new : List Line) → GrowsBy all r old new → (place : ℕ) → may_be_named old place ≡ true
-    → may_be_named new place ≡ true
-grown r old new (inl same) place named = ap (λ ms. may_be_named ms place) same ∙ named
-grown r old new (inr g) place named = ap (λ ms. may_be_named ms place) g.2 ∙ named_added old g.0 place named
+grown : (r : ℕ) (old new : List Line) → GrowsBy all r old new → Grows old new
+grown r old new (inl same) = grows_same old new same
+grown r old new (inr g) = subst (Grows old) (sym g.2) (grows_added old g.0)
 
 -- whatever the call
-pub named_on : (h : HubView) (r : ℕ) (q : Request) (place : ℕ) → may_be_named h.board.lines place ≡ true
-    → may_be_named (outcome h r q).1.board.lines place ≡ true
-named_on h r q = grown r h.board.lines (outcome h r q).1.board.lines (moves all h r q (fits_all r q)).lines
+pub grown_by : (h : HubView) (r : ℕ) (q : Request) → Grows h.board.lines (outcome h r q).1.board.lines
+grown_by h r q = grown r h.board.lines (outcome h r q).1.board.lines (moves all h r q (fits_all r q)).lines
 
 -- ---- what a reply tells
 
@@ -74,20 +70,20 @@ cut_mute (Some t) = tt
 -- ---- a rank that is told so
 
 pub names_on : (h : HubView) → Laid h → (r : ℕ) (q : Request) (rank : Rank) (hart stamp : ℕ) → asked rank hart ≡ Ask.Hub q
-    → NamesOnly (may_be_named h.board.lines) rank
-    → NamesOnly (may_be_named (outcome h r q).1.board.lines) (told rank hart (answer.Reply (outcome h r q).0) stamp)
+    → NamesRightly h.board.lines rank
+    → NamesRightly (outcome h r q).1.board.lines (told rank hart (answer.Reply (outcome h r q).0) stamp)
 names_on h laid r q rank hart stamp asks names = go q asks
   where
     -- a reply that tells of no post
     silent : (q : Request) → IsMute (outcome h r q).0
-        → NamesOnly (may_be_named (outcome h r q).1.board.lines) (told rank hart (answer.Reply (outcome h r q).0) stamp)
+        → NamesRightly (outcome h r q).1.board.lines (told rank hart (answer.Reply (outcome h r q).0) stamp)
     silent q is =
-        only (may_be_named h.board.lines) (may_be_named (outcome h r q).1.board.lines) rank hart
-        (answer.Reply (outcome h r q).0) stamp (named_on h r q) names
-        (mute (may_be_named (outcome h r q).1.board.lines) (outcome h r q).0 is)
+        rightly_told h.board.lines (outcome h r q).1.board.lines rank hart
+        (answer.Reply (outcome h r q).0) stamp (grown_by h r q) names
+        (mute (may_be_awaited (outcome h r q).1.board.lines) (outcome h r q).0 is)
 
     go : (q : Request) → asked rank hart ≡ Ask.Hub q
-        → NamesOnly (may_be_named (outcome h r q).1.board.lines) (told rank hart (answer.Reply (outcome h r q).0) stamp)
+        → NamesRightly (outcome h r q).1.board.lines (told rank hart (answer.Reply (outcome h r q).0) stamp)
     go (request.Send sync comm dest tag bytes) asks =
         names_told h laid r (request.Send sync comm dest tag bytes) tt rank hart stamp asks names
     go (request.Recv now comm source tag) asks =

@@ -18,5 +18,5 @@ pub mod worked;
 pub use alike::alike_names;
 pub use board::WholeBoard;
 pub use live::live_names;
-pub use names::Names;
+pub use names::{Counterpart, Names};
 pub use whole::WholeHub;

@@ -10,7 +10,7 @@ ghost use Rattle.mp_alike.specs.InnerLive.{IsLiveBoardBy, KeepsOrder, KeepsRank,
 use crate::alike::is_alike_beside;
 use crate::board::{WholeBoard, line_at};
 use crate::live_naming::guessed;
-use crate::names::{Names, maker, renamed};
+use crate::names::{Counterpart, Names, maker, renamed};
 use crate::over::{is_over, is_over_receive, is_over_send};
 use crate::posts::{has_body, has_line, keeps_claim, keeps_sends};
 use crate::whole::WholeHub;
@@ -167,14 +167,19 @@ fn are_alike_posts(to: &[u64], mine: &WholeBoard, theirs: &WholeBoard) -> bool
 
 // Names by which the boards are alike, if some were found.
 #[tactic(auto, using(crate::proofs::LiveBoards::live_alike_by))]
-fn board_names(alloc: Global, a: &WholeBoard, b: &WholeBoard) -> Result<Option<Names>, AllocError>
+fn board_names(
+    alloc: Global,
+    a: &WholeBoard,
+    b: &WholeBoard,
+    counterparts: &[Counterpart],
+) -> Result<Option<Names>, AllocError>
     ensures { IfOk result (λ found. IfSome found (λ names. IsLiveBoardBy names a.now b.now)) }
 {
     let many = a.lines().len();
     if b.lines().len() != many {
         return Ok(None);
     }
-    let Some(naming) = guessed(alloc, a, b)? else {
+    let Some(naming) = guessed(alloc, a, b, counterparts)? else {
         return Ok(None);
     };
     if !are_turned(many, naming.to.as_slice(), naming.back.as_slice()) {
@@ -187,12 +192,18 @@ fn board_names(alloc: Global, a: &WholeBoard, b: &WholeBoard) -> Result<Option<N
 }
 
 /// The names by which the one hub is alike the other, where posts that are over may be any that are over. None where
-/// none were found. The only error is want of memory.
-pub fn live_names(alloc: Global, a: &WholeHub, b: &WholeHub) -> Result<Option<Names>, AllocError>
+/// none were found. The counterparts are sends that have to be the same, where they are over, for whoever goes on comparing.
+/// The only error is want of memory.
+pub fn live_names(
+    alloc: Global,
+    a: &WholeHub,
+    b: &WholeHub,
+    counterparts: &[Counterpart],
+) -> Result<Option<Names>, AllocError>
     ensures { IfOk result (λ found. IfSome found (λ names. AreLiveAlikeBy names a.now b.now)) }
 {
     if !is_alike_beside(a, b) {
         return Ok(None);
     }
-    board_names(alloc, a.board(), b.board())
+    board_names(alloc, a.board(), b.board(), counterparts)
 }

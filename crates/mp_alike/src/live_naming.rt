@@ -2,10 +2,11 @@
 //! of which no clause speaks: what comes of it is looked over before anything rests on it.
 //!
 //! A post that isn't over goes to the next one of its rank that isn't, and a partner that is over goes with it. What is
-//! left are sends that are over, and the receives that collected their messages: these go in their order.
+//! left are sends that are over, and the receives that collected their messages: a send goes to its counterpart, if it is
+//! given one, and the others go in their order.
 
 use crate::board::{WholeBoard, line_at};
-use crate::names::{Naming, is_free, maker};
+use crate::names::{Counterpart, Naming, is_free, maker};
 use crate::over::{is_over, is_over_send};
 use std::alloc::{AllocError, Global};
 
@@ -85,11 +86,65 @@ fn go_live(back: &mut [Option<u64>], mine: &WholeBoard, theirs: &WholeBoard) -> 
     true
 }
 
-// Has the sends go that are over, and whose partners are.
-fn go_over(back: &mut [Option<u64>], mine: &WholeBoard, theirs: &WholeBoard) -> bool {
+// Whether the send at the place is over, and its partner is.
+fn is_over_pair(board: &WholeBoard, place: usize) -> bool {
+    is_over_send(board, place) && over_partner(board, place).is_some()
+}
+
+// Whether the place is that of a post with a counterpart.
+fn has_counterpart(counterparts: &[Counterpart], place: usize) -> bool {
+    counterparts
+        .iter()
+        .any(|two| two.mine != 0 && two.mine - 1 == place as u64)
+}
+
+// Has a send that is over go to its counterpart. False where it can't.
+fn go_counterpart(
+    back: &mut [Option<u64>],
+    mine: &WholeBoard,
+    theirs: &WholeBoard,
+    two: Counterpart,
+) -> bool {
+    if two.mine == 0 || two.theirs == 0 {
+        return false;
+    }
+    let place = (two.mine - 1) as usize;
+    let there = (two.theirs - 1) as usize;
+    if !is_over_pair(mine, place) {
+        return true;
+    }
+    if !is_left(back, there) || !is_over_send(theirs, there) {
+        return false;
+    }
+    go(back, mine, place, theirs, there);
+    true
+}
+
+// Has the sends go that are over and have counterparts.
+fn go_counterparts(
+    back: &mut [Option<u64>],
+    mine: &WholeBoard,
+    theirs: &WholeBoard,
+    counterparts: &[Counterpart],
+) -> bool {
+    for two in counterparts.iter() {
+        if !go_counterpart(back, mine, theirs, *two) {
+            return false;
+        }
+    }
+    true
+}
+
+// Has the sends go that are over, and whose partners are, but for those that have counterparts.
+fn go_over(
+    back: &mut [Option<u64>],
+    mine: &WholeBoard,
+    theirs: &WholeBoard,
+    counterparts: &[Counterpart],
+) -> bool {
     let mut from = 0;
     for place in 0..mine.lines().len() {
-        if is_over_send(mine, place) && over_partner(mine, place).is_some() {
+        if is_over_pair(mine, place) && !has_counterpart(counterparts, place) {
             let Some(there) = first_over_send(from, theirs, back) else {
                 return false;
             };
@@ -119,9 +174,14 @@ pub fn guessed(
     alloc: Global,
     mine: &WholeBoard,
     theirs: &WholeBoard,
+    counterparts: &[Counterpart],
 ) -> Result<Option<Naming>, AllocError> {
     let mut back = vec![in alloc; None; theirs.lines().len()]?;
-    if !go_live(back.as_mut_slice(), mine, theirs) || !go_over(back.as_mut_slice(), mine, theirs) {
+    let places = back.as_mut_slice();
+    if !go_live(places, mine, theirs)
+        || !go_counterparts(places, mine, theirs, counterparts)
+        || !go_over(places, mine, theirs, counterparts)
+    {
         return Ok(None);
     }
     let Some(to) = turned(alloc, back.as_slice())? else {

@@ -26,6 +26,13 @@ impl Model for Names {
     ghost view = { λ names. names.to.items };
 }
 
+/// A post of a hub and one of another hub, by their numbers, that may be the same.
+#[derive(Clone, Copy, Drop)]
+pub struct Counterpart {
+    pub mine: u64,
+    pub theirs: u64,
+}
+
 /// Where the post at the place stands in the other hub; a place behind the end stays.
 pub fn renamed(to: &[u64], place: u64) -> u64
     ensures { result ≡ renamed_by to.now place }

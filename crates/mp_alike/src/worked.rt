@@ -77,7 +77,7 @@ pub fn still_held(alloc: Global, a: &WholeHub, b: &WholeHub) -> Result<Option<Na
     requires second { b.now ≡ sent_to_receive ((1, request.Collect 1) ∷ []) }
     ensures { IfOk result (λ found. found ≡ None) }
 {
-    live_names(alloc, a, b)
+    live_names(alloc, a, b, &[])
 }
 
 /// Nor where another of two synchronous sends is complete, though its message was collected: these are never over.
@@ -86,5 +86,5 @@ pub fn never_over(alloc: Global, a: &WholeHub, b: &WholeHub) -> Result<Option<Na
     requires second { b.now ≡ first_complete 2 0 }
     ensures { IfOk result (λ found. found ≡ None) }
 {
-    live_names(alloc, a, b)
+    live_names(alloc, a, b, &[])
 }

@@ -1,7 +1,7 @@
 -- Whether a request is to be awaited.
 use Rattle.std.specs.Prelude.{Bool, true, false}
 use Rattle.mp_request.specs.declared.entries.Progress.{Progress}
-use Rattle.mp_request.specs.declared.entries.Progress.TheVariants.{Finished, OnPost, InPhase}
+use Rattle.mp_request.specs.declared.entries.Progress.TheVariants.{Finished, Sent, OnPost, InPhase}
 use Rattle.mp_request.specs.declared.entries.State.{State}
 use Rattle.mp_request.specs.declared.entries.State.TheVariants.{Ordinary, Inactive, Active}
 
@@ -19,6 +19,7 @@ is_new (Active progress) = false
 
 abbrev pub is_finished : Progress → Bool
 is_finished Finished = true
+is_finished (Sent post) = true
 is_finished (OnPost post) = false
 is_finished InPhase = false
 

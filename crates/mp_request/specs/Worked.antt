@@ -4,7 +4,7 @@ use Rattle.std.specs.Prelude.{false}
 use Rattle.std.specs.List.{list_all}
 use Rattle.mp_types.specs.Codes.{code_number}
 use Rattle.mp_request.specs.declared.entries.OpenRequest.{OpenRequest}
-use Rattle.mp_request.specs.declared.entries.Progress.TheVariants.{Finished, OnPost, InPhase}
+use Rattle.mp_request.specs.declared.entries.Progress.TheVariants.{Finished, Sent, OnPost, InPhase}
 use Rattle.mp_request.specs.declared.entries.State.TheVariants.{Ordinary, Inactive, Active}
 use Rattle.mp_request.specs.declared.entries.Transfer.{Transfer}
 use Rattle.mp_request.specs.declared.entries.Transfer.TheVariants.{Send, Receive, ReceivePartitions}
@@ -29,7 +29,7 @@ abbrev pub waiting : OpenRequest
 waiting = record { transfer = receive; state = Ordinary (OnPost 4) }
 
 abbrev pub sent : OpenRequest
-sent = record { transfer = send; state = Ordinary Finished }
+sent = record { transfer = send; state = Ordinary (Sent 5) }
 
 abbrev pub made : Transfer → OpenRequest
 made transfer = record { transfer = transfer; state = Inactive }
@@ -66,7 +66,7 @@ six =
     Some sent ∷
     Some (made receive) ∷
     Some (record { transfer = receive; state = Active (OnPost 9) }) ∷
-    Some (record { transfer = send; state = Active Finished }) ∷
+    Some (record { transfer = send; state = Active (Sent 10) }) ∷
     Some (made partitions) ∷
     replicate 249 None
 

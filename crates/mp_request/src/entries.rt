@@ -63,9 +63,11 @@ pub struct Partitions {
 /// How far an active request is.
 #[derive(Clone, Copy, Drop)]
 pub enum Progress {
-    /// Nothing is awaited: a standard send, a synchronous one that is known to be received, or a transfer with the
-    /// null process.
+    /// Nothing is awaited: a synchronous send that is known to be received, or a transfer with the null process.
     Finished,
+    /// Nothing is awaited of a standard send, for its bytes were copied (MPI 4.1, chapter 3.4). This is its post, of which
+    /// the hub is never asked.
+    Sent(u64),
     /// The hub is to be asked of this post.
     OnPost(u64),
     /// The partitions of one phase are to be moved.
@@ -131,8 +133,8 @@ impl State {
         matches!(
             self,
             State::Inactive
-                | State::Ordinary(Progress::Finished)
-                | State::Active(Progress::Finished)
+                | State::Ordinary(Progress::Finished | Progress::Sent(_))
+                | State::Active(Progress::Finished | Progress::Sent(_))
         )
     }
 }

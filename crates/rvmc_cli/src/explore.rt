@@ -27,12 +27,13 @@ buffers, as `needs buffering: ranks 0 1`.
 
 Every run is one of this machine. A send copies its message and returns, and a
 message arrives at once. MPI allows more: a standard send may wait until it is
-received (MPI 4.1, 3.4). Ranks that would be stuck then need buffers, and the
-program is unsafe (3.5), though each run of it may end well here. The first ones
-that are found are listed. --buffered takes each standard send to copy its
-message and to return, and doesn't look for ranks that need buffers. The harts
-of a rank take turns in the order that --plan lists, the same for each rank:
-numbers from 0 to 255 with a comma between them.
+received (MPI 4.1, 3.4), a nonblocking one in MPI_Wait or MPI_Waitall. Ranks that
+would be stuck then need buffers, and the program is unsafe (3.5), though each
+run of it may end well here. The first ones that are found are listed. MPI_Test
+and calls like it take a standard send as complete. --buffered takes each
+standard send to copy its message and to return, and doesn't look for ranks that
+need buffers. The harts of a rank take turns in the order that --plan lists, the
+same for each rank: numbers from 0 to 255 with a comma between them.
 
 For each end the text has what each rank printed, how each hart ended, and, if a
 hart waits for ever, the text of `rvmc why`. From the second outcome on, the
@@ -57,9 +58,9 @@ alone`. There is no budget.
 
 `no other outcome with buffered sends` in place of `no other outcome` means that
 no run here has another outcome, but other ranks may need buffers. It is printed
-with --buffered, where ranks that need buffers are listed, where looking for them
-took too long, and where nobody can look for them: where ranks have several harts,
-or one waits for a partition that it hasn't made ready itself.
+with --buffered, --from and --join, where ranks that need buffers are listed, where
+looking for them took too long, and where nobody can look for them: where ranks
+have several harts, or one waits for a partition that it hasn't made ready itself.
 
 A search may take long. --progress prints a line on standard error after 100,
 200, .. 900, 1000, 2000, .. states: how many of them are ends, and how many more

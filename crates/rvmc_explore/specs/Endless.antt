@@ -66,8 +66,9 @@ NeverNeeds image order start =
 abbrev pub SaysNoneNeed : ImageParts → List ℕ → Node → ℕ → Bool → Type 0
 SaysNoneNeed image order start left may_wait = left ≡ 0 → may_wait ≡ true → NeverNeeds image order start
 
--- wherever a run by the order leads from here: if nobody has to go on there in a machine in which each SEND waits for its receive
--- or goes on, in any choice, nobody goes on anyway. So the ends of that machine are those of this one
+-- wherever a run by the order leads from here: if nobody has to go on there in a machine in which each standard send waits for its
+-- receive or goes on, where it is made or waited for and in any choice, nobody goes on anyway. So the ends of that machine are
+-- those of this one
 abbrev pub EndsAnyway : List ℕ → Node → Type 0
 EndsAnyway order start =
     (steps : List Step) (end : Cluster) → IsRun start.cluster steps end → FollowPlans (by_order order) start.had steps

@@ -1,11 +1,18 @@
 -- The text that `explore` prints for ranks that need buffers.
-use Rattle.std.specs.Prelude.{ℕ, ◌-◌, false, List, [], ◌∷◌, ◌++◌, codes, Option, Some, None, slice_get}
+use Rattle.std.specs.Prelude.{ℕ, ◌-◌, ◌==◌, ◌&&◌, not, cond, false, List, [], ◌∷◌, ◌++◌, codes, Option, Some, None, slice_get}
+use Rattle.std.specs.Prelude.{if◌then◌else◌, option_map}
 use Rattle.std.specs.List.{flat_map}
+use Rattle.std.specs.Option.{option_to_list}
 use Rattle.rv_hart.specs.State.{State, at_pc}
 use Rattle.rv_hart.specs.declared.state.Mode.{Mode}
 use Rattle.rv_hart.specs.declared.state.Mode.TheVariants.{Running}
 use Rattle.rv_image_types.specs.declared.images.ImageParts.{ImageParts}
 use Rattle.rv_image_types.specs.declared.images.Symbol.{Symbol}
+use Rattle.mp_match.specs.declared.posts.Post.{Post}
+use Rattle.mp_match.specs.declared.posts.Post.TheVariants as post
+use Rattle.mp_match.specs.FreePosts.{free_post}
+use Rattle.mp_hub.specs.Hub.{HubView}
+use Rattle.mp_request.specs.Table.{request_at}
 use Rattle.cl_calls.specs.Calls.{call_named}
 use Rattle.cl_calls.specs.Site.{member}
 use Rattle.cl_calls.specs.declared.calls.Call.{Call}
@@ -15,13 +22,16 @@ use Rattle.cl_state.specs.Rank.{Rank}
 use Rattle.cl_state.specs.Room.{rank_of}
 use Rattle.cl_state.specs.declared.state.RankState.{RankState}
 use Rattle.cl_replay.specs.declared.states.ClusterState.{ClusterState}
+use Rattle.cl_rest_laws.specs.Rests.{handles_ahead, post_of_send, says_buffered}
 use Rattle.rvmc_report.specs.Report.{newline}
 use Rattle.rvmc_inspect.specs.Texts.{hart_head, hart_waits_text, waiting_text}
+use Rattle.rvmc_inspect.specs.Waits.{waits}
 use Rattle.rvmc_inspect.specs.Why.{more_ranks}
+use Rattle.rvmc_inspect.specs.declared.awaited.Wait.{Wait}
 use Rattle.rvmc_inspect.specs.declared.awaited.Wait.TheVariants as wait
 use Rattle.rvmc_explore.specs.declared.needs.Rest.{Rest}
 
--- ---- a rank that rests
+-- ---- a rank that rests behind a send
 
 -- a hart that runs and is held up rests behind a SEND, which its registers still spell: where it was when it made the call, an
 -- ECALL of 4 bytes, and which rank is to receive
@@ -38,22 +48,61 @@ rest_of_hart site (Some hart) = rest_in site hart hart.mode (call_named hart)
 abbrev pub rest_of : Rank → Option Rest
 rest_of rank = rest_of_hart rank.site (slice_get rank.harts 0)
 
--- `rank 0 hart 0 waits at give+0x1c [0x24] in SEND for rank 1 to receive`, as `why` tells of a hart that waits in SSEND
-abbrev pub rest_line : List Symbol → ℕ → Rank → Rest → List ℕ
-rest_line symbols number rank rest =
-    hart_head number 0
-    ++ (waiting_text false symbols rank.memory rest.hart (wait.Receiver rest.to ∷ []) ++ newline)
+-- ---- a rank that is about to wait for its sends
+
+-- the rank that is to receive what rank r sent in standard mode
+abbrev pub receiver_in : ℕ → Option Post → Option ℕ
+receiver_in r None = None
+receiver_in r (Some (post.Send sent)) = cond ((sent.envelope.source == r) && not sent.sync) (Some sent.dest) None
+receiver_in r (Some (post.Receive what)) = None
+receiver_in r (Some (post.Claim what)) = None
+
+-- where nobody has the message of this post
+abbrev pub receiver_at : HubView → ℕ → Option ℕ → Option ℕ
+receiver_at hub r None = None
+receiver_at hub r (Some number) = receiver_in r (free_post hub.board number)
+
+-- that it receives is what completes this request
+abbrev pub send_wait : HubView → ℕ → Rank → ℕ → List Wait
+send_wait hub r rank handle =
+    option_to_list
+    (option_map (λ to. wait.Receiver to) (receiver_at hub r (post_of_send (request_at rank.requests handle))))
+
+-- and all requests of the call that the rank's hart is about to make, in the order of their handles
+abbrev pub sends_ahead : HubView → ℕ → Rank → List Wait
+sends_ahead hub r rank = flat_map (send_wait hub r rank) (handles_ahead rank 0)
+
+-- of a hart that says that its sends are buffered none waits
+abbrev pub awaited_sends : HubView → ℕ → Rank → Option State → List Wait
+awaited_sends hub r rank None = []
+awaited_sends hub r rank (Some hart) = if says_buffered hart then [] else sends_ahead hub r rank
 
 -- ---- ranks that are held up
 
-abbrev pub held_rank_text : ImageParts → ClusterState → ℕ → RankState → Option Rest → List ℕ
-held_rank_text image state number own (Some rest) = rest_line image.symbols number (rank_of own) rest
-held_rank_text image state number own None =
+-- `rank 0 hart 0 waits at give+0x1c [0x24] in SEND for rank 1 to receive`, as `why` tells of a hart that waits in SSEND
+abbrev pub rest_line : List Symbol → ℕ → Rank → State → List Wait → List ℕ
+rest_line symbols number rank hart found =
+    hart_head number 0 ++ (waiting_text false symbols rank.memory hart found ++ newline)
+
+-- a rank that rests behind a send; and of another one what `why` tells of its harts
+abbrev pub behind_text : ImageParts → ClusterState → ℕ → RankState → Option Rest → List ℕ
+behind_text image state number own (Some rest) =
+    rest_line image.symbols number (rank_of own) rest.hart (wait.Receiver rest.to ∷ [])
+behind_text image state number own None =
     hart_waits_text false image.symbols state.hub state.boxes.items number (rank_of own)
+
+-- a rank that waits for these sends too, in a call in which it may wait for messages
+abbrev pub held_rank_text : ImageParts → ClusterState → ℕ → RankState → Option State → List Wait → List ℕ
+held_rank_text image state number own (Some hart) (w ∷ more) =
+    rest_line image.symbols number (rank_of own) hart
+    (waits state.hub state.boxes.items (rank_of own) 0 ++ w ∷ more)
+held_rank_text image state number own hart found = behind_text image state number own (rest_of (rank_of own))
 
 abbrev pub held_text_at : ImageParts → ClusterState → ℕ → Option RankState → List ℕ
 held_text_at image state number None = []
-held_text_at image state number (Some own) = held_rank_text image state number own (rest_of (rank_of own))
+held_text_at image state number (Some own) =
+    let hart = slice_get (rank_of own).harts 0 in
+    held_rank_text image state number own hart (awaited_sends state.hub number (rank_of own) hart)
 
 -- the line of a rank that rests, and of another one what `why` tells of its harts; if the rank is there
 abbrev pub held_text : ImageParts → ClusterState → ℕ → List ℕ

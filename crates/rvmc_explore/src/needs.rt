@@ -1,20 +1,26 @@
 //! The text of ranks that need buffers.
 
-ghost use Rattle.std.specs.Prelude.{◌≡◌, ◌++◌, IfOk, OnOk, string_bytes};
+ghost use Rattle.std.specs.Prelude.{◌≡◌, ◌<◌, ◌++◌, IfOk, OnOk, slice_get, string_bytes, vec_len};
 ghost use Rattle.std.specs.List.{flat_map};
+ghost use Rattle.rv_image_types.specs.declared.images.ImageParts.{ImageParts};
 ghost use Rattle.cl_calls.specs.Calls.{call_named};
 ghost use Rattle.cl_calls.specs.Site.{member};
 ghost use Rattle.cl_state.specs.Room.{rank_of};
 ghost use Rattle.rvmc_inspect.specs.Texts.{hart_head};
+ghost use Rattle.rvmc_inspect.specs.Waits.{waits as waits_of};
 ghost use Rattle.rvmc_inspect.specs.Why.{more_ranks, rank_word};
-ghost use Rattle.rvmc_explore.specs.Needs.{held_text, need_line, need_text, rest_in, rest_line, rest_of};
+ghost use Rattle.rvmc_explore.specs.Needs.{awaited_sends, held_rank_text, held_text, need_line, need_text, receiver_at, rest_in, rest_line};
+ghost use Rattle.rvmc_explore.specs.Needs.{rest_of, send_wait, sends_ahead, behind_text};
 
 use cl_calls::{Call, Site, call_name, called_number};
 use cl_replay::ClusterState;
+use cl_rests::{handles_ahead, post_of_send, says_buffered};
 use cl_state::RankState;
+use mp_hub::HubState;
+use mp_match::Post;
 use rv_hart::{Hart, Mode};
 use rv_image_types::{Image, Symbol};
-use rvmc_inspect::{Wait, put_harts, wait_text};
+use rvmc_inspect::{Wait, put_harts, put_waits, waits};
 use rvmc_places::{is_in_library, put_own_place};
 use std::alloc::{AllocError, Global};
 
@@ -65,6 +71,85 @@ fn rest_of(own: &RankState) -> Option<Rest>
     }
 }
 
+/// The rank that is to receive the message of this post, if it is one that the rank sent in standard mode, and nobody has it.
+fn receiver_at(hub: &HubState, rank: u8, post: Option<u64>) -> Option<u8>
+    ensures { result ≡ receiver_at hub.now rank post }
+{
+    match hub.free_post(post?) {
+        Some(Post::Send(sent)) if sent.envelope.source == rank && !sent.sync => Some(sent.dest),
+        _ => None,
+    }
+}
+
+/// Adds the receive that completes the request of this handle, if it is of a send whose message nobody has.
+fn add_wait(
+    found: &mut Vec<Wait>,
+    hub: &HubState,
+    rank: u8,
+    own: &RankState,
+    handle: u64,
+) -> Result<(), AllocError>
+    ensures { OnOk result
+        (found.new.items ≡ found.old.items ++ send_wait hub.now rank (rank_of own.now) handle) }
+{
+    let request = own.requests.get(handle);
+    match receiver_at(hub, rank, post_of_send(&request)) {
+        None => Ok(()),
+        Some(to) => {
+            found.push(Wait::Receiver { rank: to })?;
+            Ok(())
+        }
+    }
+}
+
+/// The same of these handles, in their order.
+fn add_waits(
+    found: &mut Vec<Wait>,
+    hub: &HubState,
+    rank: u8,
+    own: &RankState,
+    handles: &[u64],
+) -> Result<(), AllocError>
+    ensures { OnOk result
+        (found.new.items ≡ found.old.items ++ flat_map (send_wait hub.now rank (rank_of own.now)) handles.now) }
+{
+    for handle in handles {
+        add_wait(found, hub, rank, own, *handle)?;
+    }
+    Ok(())
+}
+
+/// The receives that the call waits for which the rank's first hart is about to make, in the order of its handles.
+fn sends_ahead(
+    alloc: Global,
+    hub: &HubState,
+    rank: u8,
+    own: &RankState,
+) -> Result<Vec<Wait>, AllocError>
+    ensures { IfOk result (λ found. found.items ≡ sends_ahead hub.now rank (rank_of own.now)) }
+{
+    let mut found = Vec::new(alloc);
+    let handles = handles_ahead(own);
+    add_waits(&mut found, hub, rank, own, handles.as_slice())?;
+    Ok(found)
+}
+
+/// The same, but of a hart that says that its sends are buffered none.
+fn awaited_sends(
+    alloc: Global,
+    hub: &HubState,
+    rank: u8,
+    own: &RankState,
+) -> Result<Vec<Wait>, AllocError>
+    ensures { IfOk result
+        (λ found. found.items ≡ awaited_sends hub.now rank (rank_of own.now) (slice_get (rank_of own.now).harts 0)) }
+{
+    match own.harts.get(0) {
+        Some(hart) if !says_buffered(hart) => sends_ahead(alloc, hub, rank, own),
+        _ => Ok(Vec::new(alloc)),
+    }
+}
+
 /// `rank R hart H `, before how the hart stands.
 fn hart_head(alloc: Global, rank: usize, number: usize) -> Result<String, AllocError>
     ensures { IfOk result (λ text. string_bytes text ≡ hart_head rank number) }
@@ -72,7 +157,7 @@ fn hart_head(alloc: Global, rank: usize, number: usize) -> Result<String, AllocE
     format!(in alloc; "rank {rank} hart {number} ")
 }
 
-/// Adds the line of a rank that rests.
+/// Adds the line of a rank that rests: where its hart makes the call, and what it waits for.
 #[tactic(auto, unfolding(rvmc_inspect::specs::Texts::waiting_text))]
 fn put_rest(
     alloc: Global,
@@ -80,21 +165,94 @@ fn put_rest(
     symbols: &[Symbol],
     rank: usize,
     own: &RankState,
-    rest: &Rest,
+    hart: &Hart,
+    found: &[Wait],
 ) -> Result<(), AllocError>
-    ensures { OnOk result (text.new.items ≡ text.old.items ++ rest_line symbols.now rank (rank_of own.now) rest.now) }
+    ensures { OnOk result
+        (text.new.items ≡ text.old.items ++ rest_line symbols.now rank (rank_of own.now) hart.now found.now) }
 {
     let head = hart_head(alloc, rank, 0)?;
     text.extend_from_slice(head.as_bytes())?;
     text.extend_from_slice(b"waits at ")?;
-    let name = call_name(called_number(&rest.hart));
-    put_own_place(text, symbols, &own.memory, &rest.hart, name)?;
+    let name = call_name(called_number(hart));
+    put_own_place(text, symbols, &own.memory, hart, name)?;
     text.extend_from_slice(b" for ")?;
-    let inside = is_in_library(symbols, &own.memory, &rest.hart);
-    let wait = wait_text(alloc, inside, Wait::Receiver { rank: rest.to })?;
-    text.extend_from_slice(wait.as_bytes())?;
+    let inside = is_in_library(symbols, &own.memory, hart);
+    put_waits(alloc, text, inside, found)?;
     text.push(b'\n')?;
     Ok(())
+}
+
+/// Adds the line of a rank that rests behind a send, or the lines of the harts of another one.
+fn put_sent(
+    alloc: Global,
+    text: &mut Vec<u8>,
+    symbols: &[Symbol],
+    state: &ClusterState,
+    number: usize,
+    own: &RankState,
+) -> Result<(), AllocError>
+    ensures { (image : ImageParts) → image.symbols ≡ symbols.now → OnOk result
+        (text.new.items
+        ≡ text.old.items ++ behind_text image state.now number own.now (rest_of (rank_of own.now))) }
+{
+    match rest_of(own) {
+        Some(rest) => {
+            let found = [Wait::Receiver { rank: rest.to }];
+            put_rest(alloc, text, symbols, number, own, &rest.hart, &found)
+        }
+        None => put_harts(
+            alloc,
+            text,
+            symbols,
+            &state.hub,
+            state.boxes.as_slice(),
+            number,
+            own,
+            false,
+        ),
+    }
+}
+
+/// What the rank's first hart waits for in the call that it is about to make: messages, and behind them these receives.
+fn all_waits(
+    alloc: Global,
+    state: &ClusterState,
+    own: &RankState,
+    sends: &[Wait],
+) -> Result<Vec<Wait>, AllocError>
+    requires { 0 < vec_len own.now.harts }
+    ensures { IfOk result (λ found.
+        found.items ≡ waits_of state.now.hub state.now.boxes.items (rank_of own.now) 0 ++ sends.now) }
+{
+    let mut found = waits(alloc, &state.hub, state.boxes.as_slice(), own, 0)?;
+    found.extend_from_slice(sends)?;
+    Ok(found)
+}
+
+/// Adds how a rank is held up whose first hart waits for these receives in the call that it is about to make.
+fn put_held_rank(
+    alloc: Global,
+    text: &mut Vec<u8>,
+    image: &Image,
+    state: &ClusterState,
+    number: usize,
+    own: &RankState,
+    sends: &[Wait],
+) -> Result<(), AllocError>
+    ensures { OnOk result
+        (text.new.items
+        ≡ text.old.items
+        ++ held_rank_text image.now state.now number own.now (slice_get (rank_of own.now).harts 0) sends.now) }
+{
+    let symbols = image.parts().symbols.as_slice();
+    match (own.harts.get(0), sends.split_first()) {
+        (Some(hart), Some(_)) => {
+            let found = all_waits(alloc, state, own, sends)?;
+            put_rest(alloc, text, symbols, number, own, hart, found.as_slice())
+        }
+        _ => put_sent(alloc, text, symbols, state, number, own),
+    }
 }
 
 /// Adds how a rank is held up, if it is there.
@@ -108,23 +266,11 @@ fn put_held(
     ensures { OnOk result (text.new.items ≡ text.old.items ++ held_text image.now state.now rank) }
 {
     let number = usize::from(rank);
-    let symbols = image.parts().symbols.as_slice();
     let Some(own) = state.ranks.get(number) else {
         return Ok(());
     };
-    match rest_of(own) {
-        Some(rest) => put_rest(alloc, text, symbols, number, own, &rest),
-        None => put_harts(
-            alloc,
-            text,
-            symbols,
-            &state.hub,
-            state.boxes.as_slice(),
-            number,
-            own,
-            false,
-        ),
-    }
+    let sends = awaited_sends(alloc, &state.hub, rank, own)?;
+    put_held_rank(alloc, text, image, state, number, own, sends.as_slice())
 }
 
 /// The same of these ranks, in order.
@@ -172,8 +318,8 @@ fn put_need_line(alloc: Global, text: &mut Vec<u8>, ranks: &[u8]) -> Result<(), 
     Ok(())
 }
 
-/// Adds how ranks that need buffers are held up: of one that rests behind a send, where it sent and which rank is to receive; of
-/// another one, how its harts stand and what each waits for. Behind them, that they need buffers. The only error is want of
+/// Adds how ranks that need buffers are held up: of one that rests, where it sent or waits for its sends and which ranks are to
+/// receive; of another one, how its harts stand and what each waits for. Behind them, that they need buffers. The only error is want of
 /// memory.
 pub(crate) fn put_need(
     alloc: Global,

@@ -82,7 +82,7 @@ fn asked_envelope_text(
 }
 
 /// What is waited for, as `a message from rank 1 tag 7 comm 0`, or inside the library `a message from rank 1`.
-pub fn wait_text(alloc: Global, inside: bool, wait: Wait) -> Result<String, AllocError>
+pub(crate) fn wait_text(alloc: Global, inside: bool, wait: Wait) -> Result<String, AllocError>
     ensures { IfOk result (λ text. string_bytes text ≡ wait_text inside wait) }
 {
     match wait {
@@ -126,7 +126,7 @@ fn put_more(
 
 /// Adds all that is waited for, each behind the other with `; ` between. What waits for nothing more goes on where it
 /// takes its turn.
-pub(crate) fn put_waits(
+pub fn put_waits(
     alloc: Global,
     text: &mut Vec<u8>,
     inside: bool,

@@ -14,7 +14,7 @@ mod unreceived;
 mod word_texts;
 mod words;
 
-pub use awaited::{Wait, wait_text};
+pub use awaited::{Wait, put_waits};
 pub use cl_deadlock::deadlock;
 pub use finding::waits;
 pub use harts::put_harts;

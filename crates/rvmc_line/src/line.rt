@@ -109,9 +109,9 @@ pub enum ImageCommand {
     },
     /// All ends are told to which some order leads behind `start`, whose harts are the plan, of at most `states` states (1 to
     /// 16,777,216), where a rank takes at most `turns` turns (1 to 16,777,216) alone between two meetings; with `record` the
-    /// record of the end of this number (1 to 18,446,744,073,709,551,615) is written, in place of the text. With `buffered`
-    /// it isn't asked whether ranks need buffers. With `progress` lines on standard error say how far the search came.
-    /// Whether the start is one of the image, and such an end is there, is not known here.
+    /// record of the end of this number (1 to 18,446,744,073,709,551,615) is written, in place of the text. It isn't asked
+    /// whether ranks need buffers, with `buffered` or without it. With `progress` lines on standard error say how far the
+    /// search came. Whether the start is one of the image, and such an end is there, is not known here.
     ExploreFrom {
         start: Start,
         states: u64,

@@ -116,14 +116,14 @@ module _ {wild : Wild} (names : Renaming) (h k : HubView) (alike : AlikeHubs wil
     where
       go : (c : Call) → own_wait (at_clock (rank_by names x) both.0) c ≡ own_wait x c
       go (call.Wait w) =
-          ap (λ o. side_wait x.phases (sending_side o)) (request_named names x.requests w.handle)
+          ap (λ o. side_wait x.phases (sending_side o)) (request_named names (number_by names) x.requests w.handle)
           ∙ ap (side_wait x.phases) (side_by (request_at x.requests w.handle))
       go _ = refl
 
   call_same : (x y : Rank) → AlikeRanks names x y → (hart : ℕ)
       → call_named (get_or y.harts hart no_hart) ≡ call_named (get_or x.harts hart no_hart)
   call_same x y both hart =
-      ap (λ (z : Rank). call_named (part_of z hart).hart) both.1 ∙ ap (λ p. call_named p.hart) (part_named names x hart)
+      ap (λ (z : Rank). call_named (part_of z hart).hart) both.1 ∙ ap (λ p. call_named p.hart) (part_named names (number_by names) x hart)
 
   module _ (left right : List (List Settled))
       (boxes : (link part : ℕ) → part < 16 → box_is_full right link part ≡ box_is_full left link part) where

@@ -8,7 +8,7 @@ use Rattle.mp_types.specs.declared.codes.Code.{Code}
 use Rattle.mp_types.specs.declared.codes.Code.TheVariants as code
 use Rattle.mp_request.specs.declared.entries.OpenRequest.{OpenRequest}
 use Rattle.mp_request.specs.declared.entries.Partitions.{Partitions}
-use Rattle.mp_request.specs.declared.entries.Progress.TheVariants.{Finished, InPhase}
+use Rattle.mp_request.specs.declared.entries.Progress.TheVariants.{Sent, InPhase}
 use Rattle.mp_request.specs.declared.entries.State.TheVariants.{Ordinary, Inactive, Active}
 use Rattle.mp_request.specs.declared.entries.Transfer.TheVariants.{Send, SendPartitions, ReceivePartitions}
 use Rattle.mp_request.specs.Table.{Table, no_requests}
@@ -88,7 +88,7 @@ abbrev pub opened : List OpenRequest
 opened =
     record { transfer = SendPartitions (side 0); state = Active InPhase } ∷
     record { transfer = ReceivePartitions (side 1); state = Inactive } ∷
-    record { transfer = Send false 8 1 1 7 0; state = Ordinary Finished } ∷
+    record { transfer = Send false 8 1 1 7 0; state = Ordinary (Sent 1) } ∷
     []
 
 abbrev pub table : Table

@@ -3,9 +3,9 @@ use Rattle.cl_contests.proofs.Fits.{fit_rank}
 use Rattle.cl_contests.proofs.fit.is_fit_rank.Goals as goal
 
 pub returns : goal.returns
-returns c = λ its image cluster stands.
-    fit_rank c.args.patterns.now.may_wait c.args.patterns.now.kept.items cluster c.args.rank (rank_of c.args.own.now)
+returns c = λ its image here stands.
+    fit_rank c.args.patterns.now.may_wait c.args.patterns.now.kept.items here.cluster c.args.rank (rank_of c.args.own.now)
     c.next-doing.result c.in_ok-ask.ask
     c.is_made_anew-waits.result c.next-doing.ensures.spelled c.is_made_anew-waits.ensures c.in_ok-ask.ensures
     (c.allow.ensures.allowed c.if-not-allow.false) (c.allow.ensures.wild c.if-not-allow.false)
-    (c.stands_at_call.ensures c.if-not-stands_at_call.false) (c.rests_if.ensures its image cluster stands)
+    (c.stands_at_call.ensures c.if-not-stands_at_call.false) (c.rests_if.ensures its image here stands)

@@ -18,12 +18,16 @@ returns-then-is_wanted-clause-progress g c = told_behind c.args.course.now.progr
 pub returns-then-not-patterns-clause-progress : goal.returns-then-not-patterns-clause-progress
 returns-then-not-patterns-clause-progress g c = told_behind c.args.course.now.progress _ _ _ c.loop-try.invariant.0 c.search.ensures.progress
 
+pub returns-in_err-tell_first_needs-clause-progress : goal.returns-in_err-tell_first_needs-clause-progress
+returns-in_err-tell_first_needs-clause-progress g c =
+    told_behind c.args.course.now.progress _ _ _ c.loop-try.invariant.0 c.search.ensures.progress
+
 pub returns-in_err-add_all-clause-progress : goal.returns-in_err-add_all-clause-progress
 returns-in_err-add_all-clause-progress g c = told_behind c.args.course.now.progress _ _ _ c.loop-try.invariant.0 c.search.ensures.progress
 
 pub loop-try-preserved : goal.loop-try-preserved
 loop-try-preserved g c =
-    (told_behind c.args.course.now.progress _ _ _ c.loop-try.invariant.0 c.search.ensures.progress, c.search.ensures.holds)
+    (told_behind c.args.course.now.progress _ _ _ c.loop-try.invariant.0 c.search.ensures.progress, c.tell_first_needs.ensures.holds)
 
 pub returns-then-is_wanted-clause-ends : goal.returns-then-is_wanted-clause-ends
 returns-then-is_wanted-clause-ends g c =

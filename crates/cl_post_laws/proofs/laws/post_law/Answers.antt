@@ -8,7 +8,8 @@ pub returns : goal.returns
 returns c = record {
   renamed = source.renamed;
   below = source.below;
-  only = source.only;
+  names = source.names_only;
+  awaits = source.awaits_only;
   forgets = sent_source.forgets;
   asks = λ named most rank hart q bound old is. asking_source.asks named most bound rank hart q old is;
   polls = λ rank hart comm asked_source tag post stamp there asks.
