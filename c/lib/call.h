@@ -53,8 +53,7 @@ enum {
 
 /* What a SEND of the library's own has in a5, which the machine doesn't read: the bytes of "buffered". MPI lets MPI_Send wait
    for its receive, but not what the library sends beside it: collectives, pieces of a large message, MPI_Sendrecv, messages
-   of a rank to itself. So where `rvmc explore` asks which ranks need buffers, it passes over a SEND that says so. It would pass
-   over a WAIT or WAITALL too, but the library waits for no ISEND of its own. */
+   of a rank to itself. So `rvmc explore` lets no SEND rest that says so (nor a WAIT: the library waits for no ISEND of its own). */
 #define RVMC_IS_BUFFERED 0x6465726566667562L
 
 /* How often the clock was read since the last call (clock.c). */
