@@ -8,7 +8,7 @@ ghost use Rattle.cl_moves.specs.declared.standing.Standing.{Standing as Standing
 ghost use Rattle.cl_explore.specs.Covering.{AreNodes, HasRoomAt};
 ghost use Rattle.cl_contests.specs.Kept.{search_of};
 ghost use Rattle.cl_contests.specs.declared.patterns.AskedBy.{AskedBy};
-ghost use Rattle.cl_explore.specs.How.{HasRoom, IsHaltOf, at_once, by_contest, how_in, how_of, plainly};
+ghost use Rattle.cl_explore.specs.How.{HasRoom, IsHaltOf, at_once, by_contest, how_in, how_of, plainly, waits_in};
 ghost use Rattle.cl_explore.specs.declared.course.Way.TheVariants as ways;
 ghost use Rattle.cl_explore.specs.Ends.{AreTurnsTo, BeginsAt, Explored, ExploredBehind, ExploredPlainly, ExploresFrom, IsBounded, Notes, StillExplores, findings};
 ghost use Rattle.cl_explore.specs.Listening.{CameByOrder, IsEndNode, IsImageFor, IsNeedNode, IsSearchOf};
@@ -16,7 +16,7 @@ ghost use Rattle.cl_explore.specs.Visiting.{NotesVisit, findings_of};
 ghost use Rattle.cl_explore.specs.Orders.{OrderFaultHolds};
 ghost use Rattle.cl_lines.specs.Telling.{TellsProgress};
 
-use crate::bounds::{Bounds, goes_on, is_deep};
+use crate::bounds::{Bounds, goes_on, is_deep, states_in};
 use crate::companies::{Company, note_stuck};
 use crate::course::{Course, Manner, Way, may_wait};
 use crate::halt::Halt;
@@ -43,10 +43,6 @@ const MOST_POSTS: u64 = 65535;
 
 /// How often a search begins again with more patterns: more often than there are patterns of all ranks.
 const MOST_PASSES: usize = 2048;
-
-/// A search in which standard sends may wait for their receives may visit one of so many of the nodes that are allowed. If that
-/// isn't enough, the search begins again with sends that buffer, and most of the time is kept for that one.
-const WAITING_PART: usize = 8;
 
 /// Where a search came.
 #[derive(Drop)]
@@ -366,6 +362,7 @@ fn search_on<L: Listener, E: Write>(
         ExploresFrom (how_in course.now) course.now.order.now standing.old (findings found))) }
     ensures most { IfOk result (λ o. IfSome o (λ found.
         IsBounded bounds.states bounds.enough course.now.most found.nodes.items found.left)) }
+    ensures waits { IfOk result (λ o. IfSome o (λ found. found.may_wait ≡ waits_in (how_in course.now))) }
     ensures plain { course.now.way ≡ ways.Plainly → IfOk result (λ o. is_some o ≡ true) }
     ensures halt { IfErr result (IsHaltOf course.now.way) }
     ensures progress { TellsProgress course.now.progress (E.contents err.old) (E.contents err.new) }
@@ -416,6 +413,8 @@ fn search<L: Listener, E: Write>(
         (findings found))) }
     ensures most { IfOk result (λ o. IfSome o (λ found.
         IsBounded start.entry.bounds.states start.entry.bounds.enough course.now.most found.nodes.items found.left)) }
+    ensures waits { IfOk result (λ o. IfSome o (λ found.
+        found.may_wait ≡ waits_in (how_of way patterns.now.may_wait patterns.now.kept.items))) }
     ensures plain { way ≡ ways.Plainly → IfOk result (λ o. is_some o ≡ true) }
     ensures progress { TellsProgress course.now.progress (E.contents err.old) (E.contents err.new) }
     ensures holds { L.holds listener.new start.entry.image.now course.now.order.now }
@@ -456,6 +455,7 @@ fn search_at_once<L: Listener, E: Write>(
         ExploresFrom at_once course.now.order.now start.entry.standing (findings found))) }
     ensures most { IfOk result (λ o. IfSome o (λ found.
         IsBounded start.entry.bounds.states start.entry.bounds.enough course.now.most found.nodes.items found.left)) }
+    ensures waits { IfOk result (λ o. IfSome o (λ found. found.may_wait ≡ false)) }
     ensures progress { TellsProgress course.now.progress (E.contents err.old) (E.contents err.new) }
     ensures holds { L.holds listener.new start.entry.image.now course.now.order.now }
 {
@@ -485,6 +485,7 @@ fn search_plainly<L: Listener, E: Write>(
     ensures ends { IfOk result (λ found. ExploresFrom plainly course.now.order.now start.entry.standing (findings found)) }
     ensures most { IfOk result (λ found.
         IsBounded start.entry.bounds.states start.entry.bounds.enough course.now.most found.nodes.items found.left) }
+    ensures waits { IfOk result (λ found. found.may_wait ≡ false) }
     ensures progress { TellsProgress course.now.progress (E.contents err.old) (E.contents err.new) }
     ensures holds { L.holds listener.new start.entry.image.now course.now.order.now }
 {
@@ -502,16 +503,6 @@ fn search_plainly<L: Listener, E: Write>(
         Some(found) => Ok(found),
         None => unreachable!(),
     }
-}
-
-/// How many nodes a search may visit of so many that are allowed.
-fn states_in(states: usize, may_wait: bool) -> usize
-    ensures { may_wait ≡ false → result ≡ states }
-{
-    if may_wait {
-        return (states / WAITING_PART).max(1);
-    }
-    states
 }
 
 /// Whether what a search found is what is wanted: it found something, and it wasn't cut where standard sends might wait for
@@ -532,7 +523,7 @@ fn is_halted(found: &Option<Exploration>, missing: &Patterns, may_wait: bool) ->
 }
 
 /// If a search with sends that may wait was halted, the listener is told on each way of the first ranks that need buffers, by
-/// these patterns of all ranks. Nothing else depends on it.
+/// these patterns of all ranks. What ranks asked beside them is left in `missing`. Nothing else depends on it.
 ///
 /// Refusals: NoTurn where the machine has no such turn there, Clock, Memory.
 fn tell_first_needs<L: Listener>(
@@ -542,6 +533,7 @@ fn tell_first_needs<L: Listener>(
     patterns: &Patterns,
     halted: bool,
     states: usize,
+    missing: &mut Patterns,
     listener: &mut L,
 ) -> Result<(), OrderFault>
     requires order { 0 < length course.now.order.now }
@@ -563,7 +555,7 @@ fn tell_first_needs<L: Listener>(
         way: Way::First,
         patterns,
     };
-    match seek_needs(&manner, &mut standing, states, listener) {
+    match seek_needs(&manner, &mut standing, states, missing, listener) {
         Err(Halt::Fault(fault)) => Err(fault.into()),
         Ok(()) | Err(Halt::Outside) | Err(Halt::Needed) => Ok(()),
     }
@@ -592,6 +584,7 @@ fn search_by_patterns<L: Listener, E: Write>(
         ExploredBehind image.now course.now.order.now turns.now (findings found))) }
     ensures most { IfOk result (λ o. IfSome o (λ found.
         IsBounded states None course.now.most found.nodes.items found.left)) }
+    ensures buffers { IfOk result (λ o. IfSome o (λ found. course.now.buffered ≡ true → found.may_wait ≡ false)) }
     ensures fault { IfErr result (OrderFaultHolds image.now course.now.order.now turns.now) }
     ensures progress { TellsProgress course.now.progress (E.contents err.old) (E.contents err.new) }
     ensures holds { L.holds listener.new image.now course.now.order.now }
@@ -632,7 +625,16 @@ fn search_by_patterns<L: Listener, E: Write>(
         *pass = pass.saturating_add(1);
         let halted = is_halted(&found, &missing, patterns.may_wait);
         let most = states_in(states, true);
-        tell_first_needs(course, image, turns, &patterns, halted, most, listener)?;
+        tell_first_needs(
+            course,
+            image,
+            turns,
+            &patterns,
+            halted,
+            most,
+            &mut missing,
+            listener,
+        )?;
         if missing.is_empty() {
             if !patterns.may_wait {
                 return Ok(None);
@@ -669,6 +671,7 @@ pub fn explore<L: Listener, E: Write>(
     requires holds { L.holds listener.old image.now course.now.order.now }
     ensures ends { IfOk result (λ found. Explored image.now course.now.order.now (findings found)) }
     ensures most { IfOk result (λ found. IsBounded states None course.now.most found.nodes.items found.left) }
+    ensures buffers { IfOk result (λ found. course.now.buffered ≡ true → found.may_wait ≡ false) }
     ensures progress { TellsProgress course.now.progress (E.contents err.old) (E.contents err.new) }
     ensures holds { L.holds listener.new image.now course.now.order.now }
 {
@@ -695,6 +698,7 @@ pub fn explore_from<L: Listener, E: Write>(
     requires holds { L.holds listener.old image.now course.now.order.now }
     ensures ends { IfOk result (λ found. ExploredBehind image.now course.now.order.now turns.now (findings found)) }
     ensures most { IfOk result (λ found. IsBounded states None course.now.most found.nodes.items found.left) }
+    ensures buffers { IfOk result (λ found. course.now.buffered ≡ true → found.may_wait ≡ false) }
     ensures fault { IfErr result (OrderFaultHolds image.now course.now.order.now turns.now) }
     ensures progress { TellsProgress course.now.progress (E.contents err.old) (E.contents err.new) }
     ensures holds { L.holds listener.new image.now course.now.order.now }

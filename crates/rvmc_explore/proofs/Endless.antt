@@ -514,11 +514,11 @@ no_company found false need none = of (length found.companies == 0) refl (neithe
     of true is none = eqb-true (length found.companies) 0 is
     of false is none = absurd (cc)
 
-status_at : (image : ImageParts) (order : List ℕ) (states turns : ℕ) (text : List ℕ) (status : ℕ)
-    → (tells : Tells image order states turns text status) → (status ≡ 0) ⊎ (status ≡ 8)
+status_at : (image : ImageParts) (order : List ℕ) (buffered : Bool) (states turns : ℕ) (text : List ℕ) (status : ℕ)
+    → (tells : Tells image order buffered states turns text status) → (status ≡ 0) ⊎ (status ≡ 8)
     → NeverStuck image order (first_node image) × (((tells.listed).found).left ≡ 0)
     × (status ≡ 0 → tells.unending ≡ false) × (status ≡ 8 → tells.unending ≡ true)
-status_at image order states turns text status tells which =
+status_at image order buffered states turns text status tells which =
     let found = (tells.listed).found in
     let is = by_cases (found.left == 0) (any_end trapped_in found.kept found.ends)
     (has_stuck order found || any_need tells.told) tells.unending status tells.status_is which in
@@ -528,13 +528,13 @@ status_at image order states turns text status tells which =
 
 pub status_law : StatusLaw
 status_law = record {
-  zero = λ image order states turns text harts tells.
-      let is = status_at image order states turns text 0 tells (inl refl) in
+  zero = λ image order buffered states turns text harts tells.
+      let is = status_at image order buffered states turns text 0 tells (inl refl) in
       let quiet : SaysUnending image order (first_node image) ((tells.listed).found).left false =
       subst (SaysUnending image order (first_node image) ((tells.listed).found).left) (is.2 refl) tells.unending_is in
       record { ends = quiet is.1 harts; never_stuck = is.0; never_need = tells.none_need is.1 };
-  eight = λ image order states turns text tells.
-      let is = status_at image order states turns text 8 tells (inr refl) in
+  eight = λ image order buffered states turns text tells.
+      let is = status_at image order buffered states turns text 8 tells (inr refl) in
       record {
         endless = subst (SaysUnending image order (first_node image) ((tells.listed).found).left) (is.3 refl)
             tells.unending_is;

@@ -215,9 +215,9 @@ cut_by order image told taken before now heard (text, lines, held) all =
     (text, begun_by order image told text heard lines, held all)
 
 -- and with the rest behind it all is told
-pub whole_by : (order : List ℕ) (image : ImageParts) (states turns status : ℕ) (told : List Outcome) (taken : Bool)
-    (before mid now : Option (List ℕ)) (rest : List ℕ) → WereTold told taken before mid → taken ≡ true
-    → ((text : List ℕ) → AddsOutcomes 1 told [] text → Tells image order states turns (text ++ rest) status)
-    → Appends mid now rest → (text : List ℕ) × Tells image order states turns text status × Appends before now text
-whole_by order image states turns status told taken before mid now rest (text, lines, held) all tells puts =
+pub whole_by : (order : List ℕ) (image : ImageParts) (buffered : Bool) (states turns status : ℕ) (told : List Outcome)
+    (taken : Bool) (before mid now : Option (List ℕ)) (rest : List ℕ) → WereTold told taken before mid → taken ≡ true
+    → ((text : List ℕ) → AddsOutcomes 1 told [] text → Tells image order buffered states turns (text ++ rest) status)
+    → Appends mid now rest → (text : List ℕ) × Tells image order buffered states turns text status × Appends before now text
+whole_by order image buffered states turns status told taken before mid now rest (text, lines, held) all tells puts =
     (text ++ rest, tells text lines, Appends-trans before mid now text rest (held all) puts)

@@ -36,14 +36,14 @@ use Rattle.rvmc_explore.proofs.EndTexts.{found_way, lines_alike, lines_of_states
 
 -- ---- the text of an end
 
-module _ (image : ImageParts) (order : List ℕ) (states turns : ℕ) (told : List Outcome)
-    (listed : IsListOf image order states turns told) (whole : (listed.found).left ≡ 0) where
+module _ (image : ImageParts) (order : List ℕ) (buffered : Bool) (states turns : ℕ) (told : List Outcome)
+    (listed : IsListOf image order buffered states turns told) (whole : (listed.found).left ≡ 0) where
   abbrev explored : Explored image order listed.found
   explored = (listed.searched).explored
 
   tells_end : (steps : List Step) (end : Cluster) → IsRun (loaded_cluster image) steps end
       → FollowPlans (by_order order) none_had steps → IsEnd (by_order order) end
-      → TellsEnd image order states turns told listed end
+      → TellsEnd image order buffered states turns told listed end
   tells_end steps end run follow is =
       let v = explored.all whole steps end run follow is in
       let body = end_told order image listed.found told listed.are v.0 v.1 v.3 in
@@ -157,10 +157,10 @@ either false true false true first second is = refl
 either false true c false first second is = absurd (let no = second refl in cc)
 either false false c d first second is = absurd (cc)
 
-module _ (image : ImageParts) (order : List ℕ) (states turns more longer : ℕ) (text other : List ℕ) (status its : ℕ)
-    (right : IsImage image) (harts : IsOrder image.harts order)
-    (one : Tells image order states turns text status) (whole : ((one.listed).found).left ≡ 0)
-    (two : Tells image order more longer other its) (all : ((two.listed).found).left ≡ 0) where
+module _ (image : ImageParts) (order : List ℕ) (buffered copied : Bool) (states turns more longer : ℕ) (text other : List ℕ)
+    (status its : ℕ) (right : IsImage image) (harts : IsOrder image.harts order)
+    (one : Tells image order buffered states turns text status) (whole : ((one.listed).found).left ≡ 0)
+    (two : Tells image order copied more longer other its) (all : ((two.listed).found).left ≡ 0) where
   abbrev first : Explored image order (one.listed).found
   first = ((one.listed).searched).explored
 
@@ -246,9 +246,9 @@ leads_to_text image order told number steps leads =
     }
 
 -- no list tells of ranks that need buffers where runs never come to any
-none_needed : (image : ImageParts) (order : List ℕ) (more longer : ℕ) (other : List Outcome)
-    → IsListOf image order more longer other → NeverNeeds image order (first_node image) → any_need other ≡ false
-none_needed image order more longer other listed never = of (any_need other) refl
+none_needed : (image : ImageParts) (order : List ℕ) (copied : Bool) (more longer : ℕ) (other : List Outcome)
+    → IsListOf image order copied more longer other → NeverNeeds image order (first_node image) → any_need other ≡ false
+none_needed image order copied more longer other listed never = of (any_need other) refl
   where
     of : (b : Bool) → any_need other ≡ b → any_need other ≡ false
     of false is = is
@@ -258,35 +258,36 @@ none_needed image order more longer other listed never = of (any_need other) ref
 
 pub one_list_law : OneListLaw
 one_list_law = record {
-  each = λ image order states turns told listed k outcome at.
+  each = λ image order buffered states turns told listed k outcome at.
       told_way image order (first_node image) listed.found (listed.searched).explored outcome
       ((listed.are).each k outcome at);
-  every = λ image order states turns told listed whole steps end run follow is.
-      tells_end image order states turns told listed whole steps end run follow is;
-  ends = λ image order states turns more longer told other one listed whole k i node at there.
+  every = λ image order buffered states turns told listed whole steps end run follow is.
+      tells_end image order buffered states turns told listed whole steps end run follow is;
+  ends = λ image order buffered copied states turns more longer told other one listed whole k i node at there.
       let explored = (one.searched).explored in
       let end = explored.sound k i at in
       let same : end.0 ≡ node = same_Some end.0 node (sym end.1 ∙ there) in
       let way = found_way image order (first_node image) one.found explored i node there in
-      tells_end image order more longer other listed whole way.0 node.cluster (way.1).run (way.1).follow
+      tells_end image order copied more longer other listed whole way.0 node.cluster (way.1).run (way.1).follow
       (subst (λ (n : Node). IsEnd (by_order order) n.cluster) same end.2);
-  record_leads = λ image order states turns number steps recorded.
+  record_leads = λ image order buffered states turns number steps recorded.
       leads_to_text image order recorded.told number steps recorded.leads;
   record_leads_from = λ image start states turns number steps recorded.
       leads_to_text image start.harts recorded.told number steps recorded.leads;
-  records = λ image order states turns more longer number steps other recorded listed whole.
+  records = λ image order buffered copied states turns more longer number steps other recorded listed whole.
       let led = leads_there image order steps (numbered recorded.told number) recorded.leads in
       let way = led.2.way in (
         (led.2.node).cluster,
         led.2.run,
-        λ is. tells_end image order more longer other listed whole led.2.turns (led.2.node).cluster way.run way.follow is,
+        λ is. tells_end image order copied more longer other listed whole led.2.turns (led.2.node).cluster way.run way.follow is,
       );
-  none_need = λ image order states turns more longer text status other one whole waiting listed.
-      none_needed image order more longer other listed (one.none_need whole waiting);
-  statuses = λ image order states turns more longer text other status its right harts one whole two all.
+  none_need = λ image order buffered copied states turns more longer text status other one whole waiting listed.
+      none_needed image order copied more longer other listed (one.none_need whole waiting);
+  statuses = λ image order buffered copied states turns more longer text other status its right harts one whole two all.
       let unending = bools one.unending two.unending
-      (unending_there image order states turns more longer text other status its right harts one whole two all)
-      (unending_there image order more longer states turns other text its status right harts two all one whole) in (
+      (unending_there image order buffered copied states turns more longer text other status its right harts one whole two all)
+      (unending_there image order copied buffered more longer states turns other text its status right harts two all one
+      whole) in (
         unending,
         λ needs. status_same ((one.listed).found).left ((two.listed).found).left status its
             (any_end trapped_in ((one.listed).found).kept ((one.listed).found).ends)
@@ -294,11 +295,13 @@ one_list_law = record {
             (any_end trapped_in ((two.listed).found).kept ((two.listed).found).ends)
             (has_stuck order (two.listed).found || any_need two.told) two.unending whole all one.status_is two.status_is
             (bools _ _
-            (traps_there image order states turns more longer text other status its right harts one whole two all)
-            (traps_there image order more longer states turns other text its status right harts two all one whole))
+            (traps_there image order buffered copied states turns more longer text other status its right harts one whole two all)
+            (traps_there image order copied buffered more longer states turns other text its status right harts two all one
+            whole))
             (λ i. bools _ _
-            (stuck_there image order states turns more longer text other status its right harts one whole two all)
-            (stuck_there image order more longer states turns other text its status right harts two all one whole) i
+            (stuck_there image order buffered copied states turns more longer text other status its right harts one whole two all)
+            (stuck_there image order copied buffered more longer states turns other text its status right harts two all one
+            whole) i
             || needs i)
             unending,
       );

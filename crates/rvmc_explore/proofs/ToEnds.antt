@@ -1,5 +1,5 @@
 -- A record of an outcome, and that there is none.
-use Rattle.std.proofs.Common.{ℕ, ◌≡◌, ◌≤◌, ◌∙◌, zero, suc, ap, length, List, None, Option, Some, inl, inr, refl, slice_get, subst, sym}
+use Rattle.std.proofs.Common.{ℕ, Bool, true, false, ◌≡◌, ◌≤◌, ◌∙◌, zero, suc, ap, length, List, None, Option, Some, inl, inr, refl, slice_get, subst, sym}
 use Rattle.std.proofs.lemmas.Option.{slice_get_past}
 use Rattle.rv_image_types.specs.Image.{IsImage}
 use Rattle.rv_image_types.specs.declared.images.ImageParts.{ImageParts}
@@ -134,10 +134,10 @@ records_told image order start found explored limits told are number (Some steps
     subst (λ o. Leads image order o (Some steps)) (sym is)
     (leads_to image order start found explored outcome steps limits sorted (are.each at.0 outcome at.2))
 
-pub records_end : (image : ImageParts) (order : List ℕ) (states turns : ℕ) (found : Findings) (told : List Outcome)
-    (number : ℕ) (steps : Option (List Step)) → IsImage image → IsSearched image order states turns found
-    → AreTold order image found told → RecordsIn told number steps → RecordsEnd image order states turns number steps
-records_end image order states turns found told number steps limits searched are records = record {
+pub records_end : (image : ImageParts) (order : List ℕ) (buffered : Bool) (states turns : ℕ) (found : Findings)
+    (told : List Outcome) (number : ℕ) (steps : Option (List Step)) → IsImage image → IsSearched image order buffered states turns found
+    → AreTold order image found told → RecordsIn told number steps → RecordsEnd image order buffered states turns number steps
+records_end image order buffered states turns found told number steps limits searched are records = record {
   told = told;
   listed = record { found = found; searched = searched; are = are };
   leads = records_told image order (first_node image) found searched.explored limits told are number steps records;

@@ -34,8 +34,8 @@ some_waits order cluster = list_any (λ rank. one_waits order rank.harts) cluste
 
 -- the list tells this end: a text of it begins with the lines of the ranks as they are at the end, and is these alone where
 -- no hart waits. It is that of a node at which the cluster is alike
-pub record TellsEnd (image : ImageParts) (order : List ℕ) (states turns : ℕ) (told : List Outcome)
-    (listed : IsListOf image order states turns told) (end : Cluster) : Type 0 where
+pub record TellsEnd (image : ImageParts) (order : List ℕ) (buffered : Bool) (states turns : ℕ) (told : List Outcome)
+    (listed : IsListOf image order buffered states turns told) (end : Cluster) : Type 0 where
   pub number : ℕ
   pub node : Node
   pub there : slice_get (((listed.searched).explored).nodes) number ≡ Some node
@@ -63,26 +63,27 @@ pub record LeadsToText (image : ImageParts) (order : List ℕ) (told : List Outc
 -- of lists of one image and one order, whatever their bounds. Where a premise says so, a search left no state
 pub record OneListLaw : Type 0 where
   -- each text is told of a cluster to which a run by the order leads, with whatever bounds
-  pub each : (image : ImageParts) (order : List ℕ) (states turns : ℕ) (told : List Outcome)
-      → IsListOf image order states turns told → (k : ℕ) (outcome : Outcome) → slice_get told k ≡ Some outcome
+  pub each : (image : ImageParts) (order : List ℕ) (buffered : Bool) (states turns : ℕ) (told : List Outcome)
+      → IsListOf image order buffered states turns told → (k : ℕ) (outcome : Outcome) → slice_get told k ≡ Some outcome
       → (steps : List Step) × (node : Node) × IsWay (by_order order) (first_node image) steps node
       × IsTextAt image order node.cluster outcome.body.items
   -- each tells the end of every run by the order
-  pub every : (image : ImageParts) (order : List ℕ) (states turns : ℕ) (told : List Outcome)
-      → (listed : IsListOf image order states turns told) → (listed.found).left ≡ 0
+  pub every : (image : ImageParts) (order : List ℕ) (buffered : Bool) (states turns : ℕ) (told : List Outcome)
+      → (listed : IsListOf image order buffered states turns told) → (listed.found).left ≡ 0
       → (steps : List Step) (end : Cluster) → IsRun (loaded_cluster image) steps end
       → FollowPlans (by_order order) none_had steps → IsEnd (by_order order) end
-      → TellsEnd image order states turns told listed end
+      → TellsEnd image order buffered states turns told listed end
   -- so each end that one search found is told in the other list
-  pub ends : (image : ImageParts) (order : List ℕ) (states turns more longer : ℕ) (told other : List Outcome)
-      → (one : IsListOf image order states turns told) → (listed : IsListOf image order more longer other)
+  pub ends : (image : ImageParts) (order : List ℕ) (buffered copied : Bool) (states turns more longer : ℕ)
+      (told other : List Outcome)
+      → (one : IsListOf image order buffered states turns told) → (listed : IsListOf image order copied more longer other)
       → (listed.found).left ≡ 0
       → (k i : ℕ) (node : Node) → slice_get (one.found).ends k ≡ Some i
       → slice_get (((one.searched).explored).nodes) i ≡ Some node
-      → TellsEnd image order more longer other listed node.cluster
+      → TellsEnd image order copied more longer other listed node.cluster
   -- the record of a number leads to the text of this number, in its list, with whatever bounds
-  pub record_leads : (image : ImageParts) (order : List ℕ) (states turns number : ℕ) (steps : List Step)
-      → (recorded : RecordsEnd image order states turns number (Some steps))
+  pub record_leads : (image : ImageParts) (order : List ℕ) (buffered : Bool) (states turns number : ℕ) (steps : List Step)
+      → (recorded : RecordsEnd image order buffered states turns number (Some steps))
       → LeadsToText image order recorded.told number steps
   -- and so does that behind a start
   pub record_leads_from : (image : ImageParts) (start : Start) (states turns number : ℕ) (steps : List Step)
@@ -90,21 +91,22 @@ pub record OneListLaw : Type 0 where
       → LeadsToText image start.harts recorded.told number steps
   -- it leads to an end that is told in the other list, unless somebody goes on there: others beside ranks that are stuck, or
   -- ranks that need buffers
-  pub records : (image : ImageParts) (order : List ℕ) (states turns more longer number : ℕ) (steps : List Step)
-      (other : List Outcome) → RecordsEnd image order states turns number (Some steps)
-      → (listed : IsListOf image order more longer other) → (listed.found).left ≡ 0
+  pub records : (image : ImageParts) (order : List ℕ) (buffered copied : Bool) (states turns more longer number : ℕ)
+      (steps : List Step) (other : List Outcome) → RecordsEnd image order buffered states turns number (Some steps)
+      → (listed : IsListOf image order copied more longer other) → (listed.found).left ≡ 0
       → (end : Cluster) × IsRun (loaded_cluster image) steps end
-      × (IsEnd (by_order order) end → TellsEnd image order more longer other listed end)
+      × (IsEnd (by_order order) end → TellsEnd image order copied more longer other listed end)
   -- if standard sends might wait in a search that left no state, no list tells of ranks that need buffers, with whatever
   -- bounds. Otherwise a list tells of those that its search found first, and of none if sends were to buffer
-  pub none_need : (image : ImageParts) (order : List ℕ) (states turns more longer : ℕ) (text : List ℕ) (status : ℕ)
-      (other : List Outcome) → (one : Tells image order states turns text status) → (((one.listed).found).left ≡ 0)
-      → (((one.listed).found).may_wait ≡ true) → IsListOf image order more longer other
+  pub none_need : (image : ImageParts) (order : List ℕ) (buffered copied : Bool) (states turns more longer : ℕ) (text : List ℕ)
+      (status : ℕ) (other : List Outcome) → (one : Tells image order buffered states turns text status)
+      → (((one.listed).found).left ≡ 0)
+      → (((one.listed).found).may_wait ≡ true) → IsListOf image order copied more longer other
       → any_need other ≡ false
   -- both say that some runs go on for ever, or neither; and both have the same status if both tell of ranks that need buffers,
   -- or neither does
-  pub statuses : (image : ImageParts) (order : List ℕ) (states turns more longer : ℕ) (text other : List ℕ)
-      (status its : ℕ) → IsImage image → IsOrder image.harts order
-      → (one : Tells image order states turns text status) → (((one.listed).found).left ≡ 0)
-      → (two : Tells image order more longer other its) → (((two.listed).found).left ≡ 0)
+  pub statuses : (image : ImageParts) (order : List ℕ) (buffered copied : Bool) (states turns more longer : ℕ)
+      (text other : List ℕ) (status its : ℕ) → IsImage image → IsOrder image.harts order
+      → (one : Tells image order buffered states turns text status) → (((one.listed).found).left ≡ 0)
+      → (two : Tells image order copied more longer other its) → (((two.listed).found).left ≡ 0)
       → (one.unending ≡ two.unending) × (any_need one.told ≡ any_need two.told → status ≡ its)

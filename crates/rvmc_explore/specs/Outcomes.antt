@@ -133,7 +133,8 @@ pub record AreTold (order : List ℕ) (image : ImageParts) (found : Findings) (t
       → GoesTo found.leads found.ends company.node ⊎ TellsStuck image found.kept told company
 
 -- the list of what is told of the image and the order, of a search within these bounds
-pub record IsListOf (image : ImageParts) (order : List ℕ) (states turns : ℕ) (told : List Outcome) : Type 0 where
+pub record IsListOf (image : ImageParts) (order : List ℕ) (buffered : Bool) (states turns : ℕ) (told : List Outcome)
+    : Type 0 where
   pub found : Findings
-  pub searched : IsSearched image order states turns found
+  pub searched : IsSearched image order buffered states turns found
   pub are : AreTold order image found told

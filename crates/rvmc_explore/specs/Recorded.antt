@@ -1,5 +1,5 @@
 -- A record of an outcome.
-use Rattle.std.specs.Prelude.{ℕ, zero, suc, ◌⊎◌, List, Option, Some, None, slice_get}
+use Rattle.std.specs.Prelude.{ℕ, zero, suc, ◌⊎◌, Bool, List, Option, Some, None, slice_get}
 use Rattle.rv_image_types.specs.declared.images.ImageParts.{ImageParts}
 use Rattle.cl_machine.specs.declared.steps.Step.{Step}
 use Rattle.cl_machine.specs.Cluster.{IsRun, loaded_cluster}
@@ -41,8 +41,8 @@ Leads image order (Some outcome) (Some steps) = LeadsTo image order outcome step
 Leads image order found steps = ⊥
 
 -- the steps are a run to the outcome of this number in the list of what is told, and there are none where that has fewer
-pub record RecordsEnd (image : ImageParts) (order : List ℕ) (states turns number : ℕ) (steps : Option (List Step))
-    : Type 0 where
+pub record RecordsEnd (image : ImageParts) (order : List ℕ) (buffered : Bool) (states turns number : ℕ)
+    (steps : Option (List Step)) : Type 0 where
   pub told : List Outcome
-  pub listed : IsListOf image order states turns told
+  pub listed : IsListOf image order buffered states turns told
   pub leads : Leads image order (numbered told number) steps

@@ -1,5 +1,5 @@
 -- What a search found, and which of its nodes lead where.
-use Rattle.std.specs.Prelude.{ℕ, zero, suc, ◌≡◌, ◌<◌, Bool, true, List, length, slice_get, Some, None}
+use Rattle.std.specs.Prelude.{ℕ, zero, suc, ◌≡◌, ◌<◌, Bool, false, true, List, length, slice_get, Some, None}
 use Rattle.rv_image_types.specs.declared.images.ImageParts.{ImageParts}
 use Rattle.cl_explore.specs.Covering.{HasLead}
 use Rattle.cl_order_laws.specs.Closed.{Node}
@@ -7,11 +7,12 @@ use Rattle.cl_explore.specs.Ends.{Explored, ExploredFrom, Findings, IsBounded}
 use Rattle.cl_explore.specs.declared.companies.Company.{Company}
 use Rattle.cl_explore.specs.declared.leads.Lead.{Lead}
 
--- a search of the image by the order, of so many states at most, in which a rank takes so many turns by itself at once,
--- found this
-pub record IsSearched (image : ImageParts) (order : List ℕ) (states turns : ℕ) (found : Findings) : Type 0 where
+-- a search of the image by the order, in which standard sends are to buffer or may wait, of so many states at most, and in
+-- which a rank takes so many turns by itself at once, found this
+pub record IsSearched (image : ImageParts) (order : List ℕ) (buffered : Bool) (states turns : ℕ) (found : Findings) : Type 0 where
   pub explored : Explored image order found
   pub bounded : IsBounded states None turns found.kept found.left
+  pub buffers : buffered ≡ true → found.may_wait ≡ false
 
 -- a search of the image by the order found this, from wherever it began
 abbrev pub IsExplored : ImageParts → List ℕ → Findings → Type 0

@@ -21,7 +21,7 @@ pub record IsEndless (image : ImageParts) (order : List ℕ) (may_wait : Bool) :
 
 -- of a search by an order of harts that are there
 pub record StatusLaw : Type 0 where
-  pub zero : (image : ImageParts) (order : List ℕ) (states turns : ℕ) (text : List ℕ) → IsOrder image.harts order
-      → (tells : Tells image order states turns text 0) → IsQuiet image order ((tells.listed).found).may_wait
-  pub eight : (image : ImageParts) (order : List ℕ) (states turns : ℕ) (text : List ℕ)
-      → (tells : Tells image order states turns text 8) → IsEndless image order ((tells.listed).found).may_wait
+  pub zero : (image : ImageParts) (order : List ℕ) (buffered : Bool) (states turns : ℕ) (text : List ℕ)
+      → IsOrder image.harts order → (tells : Tells image order buffered states turns text 0) → IsQuiet image order ((tells.listed).found).may_wait
+  pub eight : (image : ImageParts) (order : List ℕ) (buffered : Bool) (states turns : ℕ) (text : List ℕ)
+      → (tells : Tells image order buffered states turns text 8) → IsEndless image order ((tells.listed).found).may_wait

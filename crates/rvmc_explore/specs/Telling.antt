@@ -133,9 +133,10 @@ findings_status order found told unending =
 -- says so, as it does unless the moves of as many states as are allowed were made, or a rank took more turns by itself.
 -- Runs of any length come to what is told of those that never end, of ranks that are stuck, and where standard sends might
 -- wait, of ranks that need buffers
-pub record Tells (image : ImageParts) (order : List ℕ) (states turns : ℕ) (text : List ℕ) (status : ℕ) : Type 0 where
+pub record Tells (image : ImageParts) (order : List ℕ) (buffered : Bool) (states turns : ℕ) (text : List ℕ) (status : ℕ)
+    : Type 0 where
   pub told : List Outcome
-  pub listed : IsListOf image order states turns told
+  pub listed : IsListOf image order buffered states turns told
   pub long : Option ℕ
   pub unending : Bool
   pub unending_is : SaysUnending image order (first_node image) (listed.found).left unending

@@ -54,7 +54,7 @@ fn search_telling<K: Outset, O: Write, E: Write>(
     ensures told { WereTold teller.new.told.items teller.new.taken (O.contents teller.old.out.now)
         (O.contents teller.new.out.now) }
     ensures searched { IfOk result (λ found.
-        IsSearched image.now asked.now.order.now asked.now.states asked.now.turns (findings found)) }
+        IsSearched image.now asked.now.order.now asked.now.buffered asked.now.states asked.now.turns (findings found)) }
     ensures progress { TellsProgress asked.now.progress (E.contents err.old) (E.contents err.new) }
 {
     let course = Course {
@@ -76,10 +76,12 @@ fn rest_of(
     found: &Exploration,
     heard: Vec<Outcome>,
 ) -> Result<Told, AllocError>
-    requires searched { IsSearched image.now asked.now.order.now asked.now.states asked.now.turns (findings found.now) }
+    requires searched { IsSearched image.now asked.now.order.now asked.now.buffered asked.now.states asked.now.turns
+        (findings found.now) }
     requires heard { AreHeard asked.now.order.now image.now heard.items }
     ensures { IfOk result (λ rest. (text : List ℕ) → AddsOutcomes 1 heard.items [] text
-        → Tells image.now asked.now.order.now asked.now.states asked.now.turns (text ++ rest.text.items) rest.status) }
+        → Tells image.now asked.now.order.now asked.now.buffered asked.now.states asked.now.turns
+        (text ++ rest.text.items) rest.status) }
 {
     // ghost: brings into scope that the parts are those of an image; no effect at run time
     let _parts = image.parts();
@@ -116,7 +118,7 @@ pub fn put_explored<O: Write, E: Write>(
 ) -> Result<Searched, MoveFault>
     requires { 0 < length asked.now.order.now }
     ensures told { IfOk result (λ searched. searched.taken ≡ true → (text : List ℕ)
-        × Tells image.now asked.now.order.now asked.now.states asked.now.turns text searched.status
+        × Tells image.now asked.now.order.now asked.now.buffered asked.now.states asked.now.turns text searched.status
         × Appends (O.contents out.old) (O.contents out.new) text) }
     ensures cut { IfErr result (λ fault. (text : List ℕ) × IsBegun image.now asked.now.order.now text
         × Appends (O.contents out.old) (O.contents out.new) text) }

@@ -47,8 +47,8 @@ pub fn recorded<E: Write>(
     err: &mut E,
 ) -> Result<Option<Vec<Step>>, MoveFault>
     requires { 0 < length asked.now.order.now }
-    ensures steps { IfOk result (λ steps. RecordsEnd image.now asked.now.order.now asked.now.states asked.now.turns number
-        (option_map (λ s. s.items) steps)) }
+    ensures steps { IfOk result (λ steps. RecordsEnd image.now asked.now.order.now asked.now.buffered asked.now.states
+        asked.now.turns number (option_map (λ s. s.items) steps)) }
     ensures progress { TellsProgress asked.now.progress (E.contents err.old) (E.contents err.new) }
 {
     // ghost: brings into scope that the parts are those of an image; no effect at run time

@@ -1,5 +1,5 @@
 -- A list of ends is one to the letter.
-use Rattle.std.specs.Prelude.{ℕ, ◌≡◌, List, [], slice_get, Some}
+use Rattle.std.specs.Prelude.{ℕ, ◌≡◌, Bool, List, [], slice_get, Some}
 use Rattle.std.proofs.Common.{sym, subst}
 use Rattle.rv_image_types.specs.Image.{IsImage}
 use Rattle.rv_image_types.specs.declared.images.ImageParts.{ImageParts}
@@ -63,13 +63,13 @@ module _ (image : ImageParts) (order : List ℕ) (found : Findings) (explored : 
         told = end.told;
       }
 
-module _ (image : ImageParts) (order : List ℕ) (states turns : ℕ) (told : List Outcome)
-    (listed : IsListOf image order states turns told) (right : IsImage image) where
+module _ (image : ImageParts) (order : List ℕ) (buffered : Bool) (states turns : ℕ) (told : List Outcome)
+    (listed : IsListOf image order buffered states turns told) (right : IsImage image) where
   abbrev explored : Explored image order listed.found
   explored = (listed.searched).explored
 
   -- the text by which an end is told, at its node
-  tells_at : (end : Cluster) (tells : TellsEnd image order states turns told listed end)
+  tells_at : (end : Cluster) (tells : TellsEnd image order buffered states turns told listed end)
       → ToldAt order image (tells.node).cluster tells.body
   tells_at end tells = told_at image order listed.found explored tells.number tells.node tells.body tells.there tells.is
 
@@ -78,7 +78,8 @@ module _ (image : ImageParts) (order : List ℕ) (states turns : ℕ) (told : Li
       → HasBody told outcome.body.items
   text_there whole outcome is =
       let end = (is.node).cluster in
-      let tells = (one_list_law.every) image order states turns told listed whole outcome.way end (is.led).run (is.led).follow
+      let tells = (one_list_law.every) image order buffered states turns told listed whole outcome.way end (is.led).run
+      (is.led).follow
       is.end in
       subst (HasBody told)
       (sym (same_text order image end (tells.node).cluster outcome.body.items tells.body right tells.alike
@@ -86,14 +87,14 @@ module _ (image : ImageParts) (order : List ℕ) (states turns : ℕ) (told : Li
 
 pub one_text_law : OneTextLaw
 one_text_law = record {
-  exactly = λ image order states turns told listed right end reached tells state text stands is.
+  exactly = λ image order buffered states turns told listed right end reached tells state text stands is.
       sym (same_text order image end (tells.node).cluster text tells.body right tells.alike
       (record { state = state; is = record { reached = reached; stands = stands }; told = is })
-      (tells_at image order states turns told listed right end tells));
-  apart = λ image order states turns told listed right k j one other first second alike.
+      (tells_at image order buffered states turns told listed right end tells));
+  apart = λ image order buffered states turns told listed right k j one other first second alike.
       ((listed.are).apart) k j first.outcome second.outcome first.there second.there
       (same_text order image one other (first.outcome).body.items (second.outcome).body.items right alike
       (at_number image order told k one first) (at_number image order told j other second));
-  texts = λ image order states turns more longer told other one two whole right k outcome at is.
-      text_there image order more longer other two right whole outcome is;
+  texts = λ image order buffered copied states turns more longer told other one two whole right k outcome at is.
+      text_there image order copied more longer other two right whole outcome is;
 }

@@ -1,5 +1,5 @@
 -- That a list of ends is one to the letter.
-use Rattle.std.specs.Prelude.{ℕ, ◌≡◌, List, [], slice_get, Some}
+use Rattle.std.specs.Prelude.{ℕ, ◌≡◌, Bool, List, [], slice_get, Some}
 use Rattle.rv_image_types.specs.Image.{IsImage}
 use Rattle.rv_image_types.specs.declared.images.ImageParts.{ImageParts}
 use Rattle.cl_deadlock_laws.specs.Stuck.{IsReachable}
@@ -30,20 +30,21 @@ pub record IsEndAt (image : ImageParts) (order : List ℕ) (told : List Outcome)
 -- of lists of one image and one order, whatever their bounds. `one_list_law` has which ends they tell
 pub record OneTextLaw : Type 0 where
   -- the text by which a list tells the end of a run is that of this end, in full
-  pub exactly : (image : ImageParts) (order : List ℕ) (states turns : ℕ) (told : List Outcome)
-      → (listed : IsListOf image order states turns told) → IsImage image
-      → (end : Cluster) → IsReachable image end → (tells : TellsEnd image order states turns told listed end)
+  pub exactly : (image : ImageParts) (order : List ℕ) (buffered : Bool) (states turns : ℕ) (told : List Outcome)
+      → (listed : IsListOf image order buffered states turns told) → IsImage image
+      → (end : Cluster) → IsReachable image end → (tells : TellsEnd image order buffered states turns told listed end)
       → (state : ClusterState) (text : List ℕ) → ClusterStandsFor image state end → IsEndText order image state [] text
       → tells.body ≡ text
   -- no two ends of a list are alike
-  pub apart : (image : ImageParts) (order : List ℕ) (states turns : ℕ) (told : List Outcome)
-      → IsListOf image order states turns told → IsImage image
+  pub apart : (image : ImageParts) (order : List ℕ) (buffered : Bool) (states turns : ℕ) (told : List Outcome)
+      → IsListOf image order buffered states turns told → IsImage image
       → (k j : ℕ) (one other : Cluster) → IsEndAt image order told k one
       → IsEndAt image order told j other → AreAlikeEnds one other
       → k ≡ j
   -- each text of an end in one list is in each other one of a search that left no state
-  pub texts : (image : ImageParts) (order : List ℕ) (states turns more longer : ℕ) (told other : List Outcome)
-      → (one : IsListOf image order states turns told) → (two : IsListOf image order more longer other)
+  pub texts : (image : ImageParts) (order : List ℕ) (buffered copied : Bool) (states turns more longer : ℕ)
+      (told other : List Outcome)
+      → (one : IsListOf image order buffered states turns told) → (two : IsListOf image order copied more longer other)
       → (two.found).left ≡ 0 → IsImage image
       → (k : ℕ) (outcome : Outcome) → slice_get told k ≡ Some outcome → IsEndOutcome order image outcome
       → HasBody other outcome.body.items

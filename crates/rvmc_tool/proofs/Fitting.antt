@@ -1,5 +1,5 @@
 -- Records of ends are inside the limits of a record, and a right plan names a hart.
-use Rattle.std.specs.Prelude.{ℕ, ◌≤◌, ◌<◌, List, [], ◌∷◌, length, Option, Some, None, All}
+use Rattle.std.specs.Prelude.{ℕ, ◌≤◌, ◌<◌, Bool, List, [], ◌∷◌, length, Option, Some, None, All}
 use Rattle.std.proofs.Common.{refl, subst, arith}
 use Rattle.std.proofs.lemmas.Option.{slice_get_within}
 use Rattle.cl_record.specs.Plans.{HasPlans, IsPlan}
@@ -20,9 +20,9 @@ fit_by : (image : ImageParts) (order : List ℕ) (steps : List Step) (found : Op
 fit_by image order steps None is leads = absurd leads
 fit_by image order steps (Some outcome) is leads = runs_fit image steps (leads.node).cluster is leads.run
 
-pub ends_fit : (image : ImageParts) (order : List ℕ) (states turns number : ℕ) (steps : List Step) → IsImage image
-    → RecordsEnd image order states turns number (Some steps) → All (FitsStep image) steps
-ends_fit image order states turns number steps is recorded = fit_by image order steps _ is recorded.leads
+pub ends_fit : (image : ImageParts) (order : List ℕ) (buffered : Bool) (states turns number : ℕ) (steps : List Step)
+    → IsImage image → RecordsEnd image order buffered states turns number (Some steps) → All (FitsStep image) steps
+ends_fit image order buffered states turns number steps is recorded = fit_by image order steps _ is recorded.leads
 
 pub ends_behind_fit : (image : ImageParts) (start : Start) (states turns number : ℕ) (steps : List Step) → IsImage image
     → RecordsEndBehind image start states turns number (Some steps) → All (FitsStep image) steps

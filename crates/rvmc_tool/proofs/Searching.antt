@@ -27,23 +27,24 @@ left_stays IsCut fault before old new keeps (inr (memory, text, cut, there)) =
     inr (memory, text, cut, Appends-kept before old new text there keeps)
 
 -- of an image, whose harts take turns in this order, by right plans
-module _ (image : ImageParts) (harts : Option (List ℕ)) (states turns : ℕ) (by : ByPlans image turns harts (HasPlans image)) where
-  pub told_by : (text : List ℕ) (status : ℕ) → Tells image (listed harts image.harts) states turns text status
-      → IsExplored image harts states turns None text status
+module _ (image : ImageParts) (harts : Option (List ℕ)) (buffered : Bool) (states turns : ℕ)
+    (by : ByPlans image turns harts (HasPlans image)) where
+  pub told_by : (text : List ℕ) (status : ℕ) → Tells image (listed harts image.harts) buffered states turns text status
+      → IsExplored image harts buffered states turns None text status
   told_by text status tells =
       (by.0, by.1, record { told = λ _. tells; refused = λ wrong. absurd (wrong by.2) })
 
   pub recorded_by : (number : ℕ) (text : List ℕ) (status : ℕ)
-      → IsEndRecord image (listed harts image.harts) states turns number text × (status ≡ 0)
-      → IsExplored image harts states turns (Some number) text status
+      → IsEndRecord image (listed harts image.harts) buffered states turns number text × (status ≡ 0)
+      → IsExplored image harts buffered states turns (Some number) text status
   recorded_by number text status is =
       (by.0, by.1, record { told = λ _. inl is; refused = λ wrong. absurd (wrong by.2) })
 
   pub refused_by : (number : ℕ) (fault : Fault)
-      → IsMakingFault ⊥ ⊥ (IsNoEnd image (listed harts image.harts) states turns (Some number)) fault
+      → IsMakingFault ⊥ ⊥ (IsNoEnd image (listed harts image.harts) buffered states turns (Some number)) fault
       → IsMakingFault (ByPlans image turns harts (λ plans. ¬ (HasPlans image plans))) ⊥
       (λ refusal. ByPlans image turns harts (λ plans.
-      HasPlans image plans × IsNoEnd image (listed harts image.harts) states turns (Some number) refusal)) fault
+      HasPlans image plans × IsNoEnd image (listed harts image.harts) buffered states turns (Some number) refusal)) fault
   refused_by number faults.Plans is = absurd is
   refused_by number (faults.Unlike rank place) is = absurd is
   refused_by number faults.Spawn is = absurd is
@@ -52,6 +53,6 @@ module _ (image : ImageParts) (harts : Option (List ℕ)) (states turns : ℕ) (
   refused_by number other is = absurd is
 
   -- outcomes that were found before memory was refused
-  pub cut_by : (buffered progress : Bool) (text : List ℕ) → IsBegun image (listed harts image.harts) text
+  pub cut_by : (progress : Bool) (text : List ℕ) → IsBegun image (listed harts image.harts) text
       → IsCutSearch (Explore harts states turns None buffered progress) image text
-  cut_by buffered progress text begun = (by.0, by.1, (by.2, begun))
+  cut_by progress text begun = (by.0, by.1, (by.2, begun))

@@ -55,7 +55,8 @@ unexplored (Explore plan states turns asked buffered progress) image (refusals.N
   plans,
   of,
   record {
-    told = λ _. subst (λ o. IsToldOfSearch image (listed plan image.harts) states turns o [] 1) (sym is) (inr (none, (refl, refl)));
+    told = λ _. subst (λ o. IsToldOfSearch image (listed plan image.harts) buffered states turns o [] 1) (sym is)
+        (inr (none, (refl, refl)));
     refused = λ wrong. absurd (wrong right);
   },
 )

@@ -23,16 +23,16 @@ use Rattle.rvmc_runs.specs.Runs.{IsOne, IsOneUntilStuck, IsRunAnswer, IsThreadsU
 -- ---- all orders
 
 -- the ends of all orders of ranks' turns, if the plan is right: else there is a fault
-pub record IsExploredBy (image : ImageParts) (order : List ℕ) (states turns : ℕ) (number : Option ℕ) (plans : List Plan)
-    (text : List ℕ) (status : ℕ) : Type 0 where
-  pub told : HasPlans image plans → IsToldOfSearch image order states turns number text status
+pub record IsExploredBy (image : ImageParts) (order : List ℕ) (buffered : Bool) (states turns : ℕ) (number : Option ℕ)
+    (plans : List Plan) (text : List ℕ) (status : ℕ) : Type 0 where
+  pub told : HasPlans image plans → IsToldOfSearch image order buffered states turns number text status
   pub refused : ¬ HasPlans image plans → IsFaulty text status
 
 -- `explore`: each rank's harts take turns in this order
-abbrev pub IsExplored : ImageParts → Option (List ℕ) → (states turns : ℕ) → Option ℕ → List ℕ → ℕ → Type 0
-IsExplored image harts states turns number text status =
+abbrev pub IsExplored : ImageParts → Option (List ℕ) → Bool → (states turns : ℕ) → Option ℕ → List ℕ → ℕ → Type 0
+IsExplored image harts buffered states turns number text status =
     ByPlans image turns harts
-    (λ plans. IsExploredBy image (listed harts image.harts) states turns number plans text status)
+    (λ plans. IsExploredBy image (listed harts image.harts) buffered states turns number plans text status)
 
 -- `explore --split`: starts, if the plan is right
 abbrev pub IsSplitOf : ImageParts → Option (List ℕ) → (count turns : ℕ) → List ℕ → ℕ → Type 0
@@ -58,7 +58,7 @@ Makes (One budget plan order written) image text status = IsOne image budget pla
 Makes (OneUntilStuck budget plan order written) image text status =
     IsOneUntilStuck image budget plan order written text status
 Makes (Explore plan states turns number buffered progress) image text status =
-    IsExplored image plan states turns number text status
+    IsExplored image plan buffered states turns number text status
 Makes (Split plan count turns progress) image text status = IsSplitOf image plan count turns text status
 Makes (ExploreFrom start states turns number buffered progress) image text status =
     IsExploredFrom image start states turns number text status

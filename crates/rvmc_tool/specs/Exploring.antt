@@ -15,23 +15,24 @@ use Rattle.rvmc_answers.specs.Plans.{ByPlans, listed}
 
 -- the text of the record of the outcome of this number in the list of what is told: of a run by the order to a cluster where
 -- nobody goes on, or some ranks are stuck, or need buffers
-pub record IsEndRecord (image : ImageParts) (order : List ℕ) (states turns number : ℕ) (text : List ℕ) : Type 0 where
+pub record IsEndRecord (image : ImageParts) (order : List ℕ) (buffered : Bool) (states turns number : ℕ) (text : List ℕ)
+    : Type 0 where
   pub steps : List Step
-  pub recorded : RecordsEnd image order states turns number (Some steps)
+  pub recorded : RecordsEnd image order buffered states turns number (Some steps)
   pub inside : IsRecord image steps
   pub spelled : text ≡ record_text image steps
 
 -- that, or a fault where there is no such outcome
-abbrev pub IsRecordOfEnd : ImageParts → List ℕ → (states turns number : ℕ) → List ℕ → ℕ → Type 0
-IsRecordOfEnd image order states turns number text status =
-    (IsEndRecord image order states turns number text × (status ≡ 0))
-    ⊎ (RecordsEnd image order states turns number None × IsFaulty text status)
+abbrev pub IsRecordOfEnd : ImageParts → List ℕ → Bool → (states turns number : ℕ) → List ℕ → ℕ → Type 0
+IsRecordOfEnd image order buffered states turns number text status =
+    (IsEndRecord image order buffered states turns number text × (status ≡ 0))
+    ⊎ (RecordsEnd image order buffered states turns number None × IsFaulty text status)
 
 -- all that is told, or the record of the outcome of this number
-abbrev pub IsToldOfSearch : ImageParts → List ℕ → (states turns : ℕ) → Option ℕ → List ℕ → ℕ → Type 0
-IsToldOfSearch image order states turns None text status = Tells image order states turns text status
-IsToldOfSearch image order states turns (Some number) text status =
-    IsRecordOfEnd image order states turns number text status
+abbrev pub IsToldOfSearch : ImageParts → List ℕ → Bool → (states turns : ℕ) → Option ℕ → List ℕ → ℕ → Type 0
+IsToldOfSearch image order buffered states turns None text status = Tells image order buffered states turns text status
+IsToldOfSearch image order buffered states turns (Some number) text status =
+    IsRecordOfEnd image order buffered states turns number text status
 
 -- what is told of a search that is cut short: outcomes to which its order leads, by right plans
 abbrev pub IsCutSearch : ImageCommand → ImageParts → List ℕ → Type 0

@@ -66,7 +66,8 @@ IsMisplanned other image = ⊥
 -- by a right plan there is no such end, or nothing is told of the start
 abbrev pub IsUnexplored : ImageCommand → ImageParts → ExploreRefusal → Type 0
 IsUnexplored (Explore plan states turns number buffered progress) image refusal =
-    ByPlans image turns plan (λ plans. HasPlans image plans × IsNoEnd image (listed plan image.harts) states turns number refusal)
+    ByPlans image turns plan (λ plans. HasPlans image plans × IsNoEnd image (listed plan image.harts) buffered states turns
+    number refusal)
 IsUnexplored (ExploreFrom start states turns number buffered progress) image refusal =
     ByPlans image turns (Some start.harts) (λ plans. HasPlans image plans × IsNoStart image start states turns number refusal)
 IsUnexplored other image refusal = ⊥

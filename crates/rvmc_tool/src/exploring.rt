@@ -66,12 +66,12 @@ fn record_of_end<E: Write>(
 ) -> Result<Answer, Fault>
     requires order { 0 < length asked.now.order.now }
     requires image { IsImage image.now }
-    ensures says { IfOk result (λ answer. IsEndRecord image.now asked.now.order.now asked.now.states asked.now.turns number
-        (output_bytes answer.output)
+    ensures says { IfOk result (λ answer. IsEndRecord image.now asked.now.order.now asked.now.buffered asked.now.states
+        asked.now.turns number (output_bytes answer.output)
         × (end_status answer.end ≡ 0)) }
     ensures whole { IfOk result (λ answer. IsWhole answer.end) }
-    ensures fault { IfErr result (IsMakingFault ⊥ ⊥ (IsNoEnd image.now asked.now.order.now asked.now.states asked.now.turns
-        (Some number))) }
+    ensures fault { IfErr result (IsMakingFault ⊥ ⊥ (IsNoEnd image.now asked.now.order.now asked.now.buffered asked.now.states
+        asked.now.turns (Some number))) }
     ensures progress { TellsProgress asked.now.progress (E.contents err.old) (E.contents err.new) }
 {
     match recorded(alloc, image, asked, number, err) {
@@ -95,13 +95,14 @@ fn explore_record<E: Write>(
     err: &mut E,
 ) -> Result<Answer, Fault>
     ensures says { IfOk result (λ answer.
-        IsExplored image.now wanted.now.harts.now wanted.now.states wanted.now.turns (Some number) (output_bytes answer.output)
-        (end_status answer.end)) }
+        IsExplored image.now wanted.now.harts.now wanted.now.buffered wanted.now.states wanted.now.turns (Some number)
+        (output_bytes answer.output) (end_status answer.end)) }
     ensures whole { IfOk result (λ answer. IsWhole answer.end) }
     ensures fault { IfErr result (IsMakingFault
         (ByPlans image.now wanted.now.turns wanted.now.harts.now (λ plans. ¬ (HasPlans image.now plans))) ⊥
         (λ refusal. ByPlans image.now wanted.now.turns wanted.now.harts.now (λ plans. HasPlans image.now plans
-        × IsNoEnd image.now (listed wanted.now.harts.now image.now.harts) wanted.now.states wanted.now.turns (Some number) refusal))) }
+        × IsNoEnd image.now (listed wanted.now.harts.now image.now.harts) wanted.now.buffered wanted.now.states wanted.now.turns
+        (Some number) refusal))) }
     ensures progress { TellsProgress wanted.now.progress (E.contents err.old) (E.contents err.new) }
 {
     let order = order_of(alloc, image, wanted)?;
@@ -127,13 +128,14 @@ pub(crate) fn explore_numbered<E: Write>(
 ) -> Result<Answer, Fault>
     requires { number ≢ None }
     ensures says { IfOk result (λ answer.
-        IsExplored image.now wanted.now.harts.now wanted.now.states wanted.now.turns number (output_bytes answer.output)
-        (end_status answer.end)) }
+        IsExplored image.now wanted.now.harts.now wanted.now.buffered wanted.now.states wanted.now.turns number
+        (output_bytes answer.output) (end_status answer.end)) }
     ensures whole { IfOk result (λ answer. IsWhole answer.end) }
     ensures fault { IfErr result (IsMakingFault
         (ByPlans image.now wanted.now.turns wanted.now.harts.now (λ plans. ¬ (HasPlans image.now plans))) ⊥
         (λ refusal. ByPlans image.now wanted.now.turns wanted.now.harts.now (λ plans. HasPlans image.now plans
-        × IsNoEnd image.now (listed wanted.now.harts.now image.now.harts) wanted.now.states wanted.now.turns number refusal))) }
+        × IsNoEnd image.now (listed wanted.now.harts.now image.now.harts) wanted.now.buffered wanted.now.states wanted.now.turns
+        number refusal))) }
     ensures progress { TellsProgress wanted.now.progress (E.contents err.old) (E.contents err.new) }
 {
     match number {
@@ -152,7 +154,8 @@ fn put_ends<O: Write, E: Write>(
     err: &mut E,
 ) -> Result<Searched, Fault>
     ensures told { IfOk result (λ searched. searched.taken ≡ true → (text : List ℕ)
-        × IsExplored image.now wanted.now.harts.now wanted.now.states wanted.now.turns None text searched.status
+        × IsExplored image.now wanted.now.harts.now wanted.now.buffered wanted.now.states wanted.now.turns None text
+        searched.status
         × Appends (O.contents out.old) (O.contents out.new) text) }
     ensures fault { IfErr result (IsRunFault
         (ByPlans image.now wanted.now.turns wanted.now.harts.now (λ plans. ¬ (HasPlans image.now plans))) ⊥) }

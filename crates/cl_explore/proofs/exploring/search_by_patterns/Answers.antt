@@ -1,12 +1,15 @@
-use Rattle.std.proofs.Common.{arith, ap, subst}
+use Rattle.std.specs.Prelude.{◌≡◌, false}
+use Rattle.std.proofs.Common.{arith, ap, refl, subst, sym, ◌∙◌}
 use Rattle.rv_image_types.specs.declared.images.ImageParts.{ImageParts}
 use Rattle.cl_lines.proofs.Behind.{told_behind}
 use Rattle.cl_contests.specs.Going.{TellsStart}
 use Rattle.cl_contests.specs.Kept.{search_of}
+use Rattle.cl_contests.specs.declared.patterns.Patterns.{Patterns}
 use Rattle.cl_explore.specs.Ends.{findings}
 use Rattle.cl_explore.specs.How.{by_contest}
 use Rattle.cl_explore.proofs.Finds.{bounded_if, explored_behind, if_some_on, may_begin}
 use Rattle.cl_explore.proofs.Hears.{came_behind}
+use Rattle.cl_explore.proofs.exploring.search_by_patterns.Goals.{else-is_empty, then-is_empty+else-not-patterns}
 use Rattle.cl_explore.proofs.exploring.search_by_patterns.Goals as goal
 
 pub returns-in_err-found-clause-progress : goal.returns-in_err-found-clause-progress
@@ -26,8 +29,15 @@ pub returns-in_err-add_all-clause-progress : goal.returns-in_err-add_all-clause-
 returns-in_err-add_all-clause-progress g c = told_behind c.args.course.now.progress _ _ _ c.loop-try.invariant.0 c.search.ensures.progress
 
 pub loop-try-preserved : goal.loop-try-preserved
-loop-try-preserved g c =
-    (told_behind c.args.course.now.progress _ _ _ c.loop-try.invariant.0 c.search.ensures.progress, c.tell_first_needs.ensures.holds)
+loop-try-preserved g c = (
+  told_behind c.args.course.now.progress _ _ _ c.loop-try.invariant.0 c.search.ensures.progress,
+  c.tell_first_needs.ensures.holds,
+  λ buffers. c.in_ok-add_all.ensures.still ∙ elim c.if-is_empty.branch [
+    | then-is_empty+else-not-patterns w ↦ subst (λ (p : Patterns). p.may_wait ≡ false) (sym w.patterns-is) refl
+    | else-is_empty w ↦ subst (λ (p : Patterns). p.may_wait ≡ false) (sym w.patterns-is)
+        (c.in_ok-add_waits.ensures.still ∙ c.loop-try.invariant.2 buffers)
+  ],
+)
 
 pub returns-then-is_wanted-clause-ends : goal.returns-then-is_wanted-clause-ends
 returns-then-is_wanted-clause-ends g c =
@@ -44,6 +54,11 @@ returns-then-is_wanted-clause-ends g c =
     (may_begin may_wait kept image order turns standing led (c.is_first_hart.ensures c.if-not-is_first_hart.false)
     (omega (arith, c.if-parts-ne1.false, same))
     c.in_ok-add_waits.ensures.waits (subst (TellsStart standing) c.if-not-may_start.false c.may_start.ensures)) from) c.in_ok-found.ensures.ends
+
+pub returns-then-is_wanted-clause-buffers : goal.returns-then-is_wanted-clause-buffers
+returns-then-is_wanted-clause-buffers g c =
+    if_some_on c.in_ok-found.found
+    (λ found same buffers. same ∙ (c.in_ok-add_waits.ensures.still ∙ c.loop-try.invariant.2 buffers)) c.in_ok-found.ensures.waits
 
 pub search-requires-clause-came : goal.search-requires-clause-came
 search-requires-clause-came g c =

@@ -1,4 +1,5 @@
--- Nothing but progress was told, and what holds of the listener still does.
+-- Nothing but progress was told, what holds of the listener still does, and where sends buffer no search lets them wait.
+use Rattle.std.specs.Prelude.{◌≡◌, false, true}
 use Rattle.cl_lines.specs.Telling.{TellsProgress}
 use Rattle.cl_explore.proofs.exploring.search_by_patterns.Given as goal
 
@@ -6,3 +7,4 @@ abbrev pub invariant-loop-try : goal.invariant-loop-try
 invariant-loop-try g l =
     TellsProgress l.course.progress (g.E.Write.contents l.fn.err) (g.E.Write.contents l.err)
     × g.L.Listener.holds l.listener l.image l.course.order.now
+    × (l.course.buffered ≡ true → l.patterns.may_wait ≡ false)

@@ -44,7 +44,7 @@ returns-clause-told g c = λ all.
     c.search_telling-found.ensures.told in
     let puts =
     subst (λ (text : List ℕ). Appends mid (g.O.Write.contents c.put.new.out) text) c.as_slice.ensures.value (c.put.ensures all) in
-    whole_by c.args.asked.now.order.now c.args.image.now c.args.asked.now.states c.args.asked.now.turns rest.status
-    teller.told.items teller.taken (g.O.Write.contents c.args.out.now) mid (g.O.Write.contents given.0) rest.text.items told
+    whole_by c.args.asked.now.order.now c.args.image.now c.args.asked.now.buffered c.args.asked.now.states
+    c.args.asked.now.turns rest.status teller.told.items teller.taken (g.O.Write.contents c.args.out.now) mid (g.O.Write.contents given.0) rest.text.items told
     c.if-not-taken.false c.in_ok-text.ensures
     (subst (λ o. Appends mid (g.O.Write.contents o) rest.text.items) (sym there) puts)

@@ -23,9 +23,10 @@ tell-requires-clause-within g c =
 
 pub returns-clause-steps : goal.returns-clause-steps
 returns-clause-steps g c =
-    records_end c.args.image.now c.args.asked.now.order.now c.args.asked.now.states c.args.asked.now.turns
+    records_end c.args.image.now c.args.asked.now.order.now c.args.asked.now.buffered c.args.asked.now.states
+    c.args.asked.now.turns
     (findings c.in_ok-found.found) c.in_ok-told.told.items c.args.number _ c.parts-parts.ensures.limits
-    (record { explored = c.in_ok-found.ensures.ends; bounded = c.in_ok-found.ensures.most })
+    (record { explored = c.in_ok-found.ensures.ends; bounded = c.in_ok-found.ensures.most; buffers = c.in_ok-found.ensures.buffers })
     c.in_ok-told.ensures.told
     (subst (λ os. RecordsIn os c.args.number (option_map (λ s. s.items) c.in_ok-record_in.field-0)) c.as_slice.ensures.value
     c.in_ok-record_in.ensures)

@@ -7,8 +7,8 @@ pub new-requires : goal.new-requires
 new-requires g c =
     let recorded = rw c.in-Ok-Some.field-0-is at c.in-Ok-Some.ensures.steps in
     record {
-      each = ends_fit c.args.image.now c.args.asked.now.order.now c.args.asked.now.states c.args.asked.now.turns
-          c.args.number c.in-Ok-Some.steps.items c.requires.image recorded;
+      each = ends_fit c.args.image.now c.args.asked.now.order.now c.args.asked.now.buffered c.args.asked.now.states
+          c.args.asked.now.turns c.args.number c.in-Ok-Some.steps.items c.requires.image recorded;
       few = search rules;
     }
 
@@ -17,8 +17,8 @@ returns-in_ok-new-in-Ok-Some-clause-says g c =
     let steps = c.in-Ok-Some.steps.items in
     let few : length steps < 2 ^ 64 = search rules in
     let recorded = rw c.in-Ok-Some.field-0-is at c.in-Ok-Some.ensures.steps in
-    let each = ends_fit c.args.image.now c.args.asked.now.order.now c.args.asked.now.states c.args.asked.now.turns
-    c.args.number steps c.requires.image recorded in (
+    let each = ends_fit c.args.image.now c.args.asked.now.order.now c.args.asked.now.buffered c.args.asked.now.states
+    c.args.asked.now.turns c.args.number steps c.requires.image recorded in (
       record {
         steps = steps;
         recorded = recorded;

@@ -1,6 +1,6 @@
 use Rattle.cl_explore.specs.How.{how_in}
 use Rattle.cl_explore.proofs.Hears.{begun}
-use Rattle.cl_explore.proofs.seeking.seek_needs.Goals as goal
+use Rattle.cl_explore.proofs.seeking.seek_each.Goals as goal
 
 pub rest-init : goal.rest-init
 rest-init g c = (

@@ -2,7 +2,7 @@
 use Rattle.std.proofs.Common.{◌-◌}
 use Rattle.cl_explore.specs.How.{how_in}
 use Rattle.cl_explore.specs.Listening.{IsSearchOf}
-use Rattle.cl_explore.proofs.seeking.seek_needs.Given as goal
+use Rattle.cl_explore.proofs.seeking.seek_each.Given as goal
 
 abbrev pub invariant-rest : goal.invariant-rest
 invariant-rest g l =
