@@ -5,6 +5,9 @@
 #define COUNT 50000
 #endif
 
+/* how often the words come once more: a search has to look at some hundred states before the second pair */
+#define ROUNDS 100
+
 enum { WORD, ORDER, SWAP, NOTHING };
 enum { END, AGAIN, SWAPS };
 
@@ -37,7 +40,7 @@ static int next_order(int rank)
 }
 
 /* Rank 0 swaps with the rank whose word comes first, so two pairs may hang, one on each way. On the way of rank 2 the words come
-   once more before that, and rank 2 looks for a message that never comes: nobody asks for that on the other way. */
+   many times before that, and rank 2 looks for a message that never comes: nobody asks for that on the other way. */
 int main(int argc, char **argv)
 {
     int rank, order, there, other;
@@ -47,7 +50,7 @@ int main(int argc, char **argv)
     if (rank == 0) {
         order = SWAPS;
         other = first_of_two();
-        if (other == 2) {
+        for (int round = 0; other == 2 && round < ROUNDS; round++) {
             tell_both(AGAIN, AGAIN);
             first_of_two();
         }
@@ -55,7 +58,7 @@ int main(int argc, char **argv)
     } else {
         other = 0;
         order = next_order(rank);
-        if (order == AGAIN) {
+        while (order == AGAIN) {
             order = next_order(rank);
             if (order == SWAPS)
                 MPI_Iprobe(0, NOTHING, MPI_COMM_WORLD, &there, MPI_STATUS_IGNORE);
