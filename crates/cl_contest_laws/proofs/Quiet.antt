@@ -1,7 +1,7 @@
 -- Ranks that need buffers stay held up along turns of ranks that go first, and need them at the node to which those lead.
-use Rattle.std.proofs.Common.{◌≡◌, ◌∙◌, ℕ, refl, sym, ap, subst, arith, ◌⊎◌, inl, inr, Bool, true, false, List, [], Option, Some, None}
+use Rattle.std.proofs.Common.{◌≡◌, ◌∙◌, ℕ, refl, sym, ap, subst, arith, ◌⊎◌, inl, inr, Bool, true, false, List, [], map, Option, Some, None}
 use Rattle.std.specs.Prelude.{◌&&◌, ◌||◌, ◌==◌, not}
-use Rattle.std.specs.List.{list_any, slice_get}
+use Rattle.std.specs.List.{list_all, list_any, slice_get}
 use Rattle.std.specs.Option.{option_map}
 use Rattle.std.proofs.lemmas.Bool.{and_left, cases_Bool}
 use Rattle.std.proofs.lemmas.Option.{same_Some, slice_get-map}
@@ -12,12 +12,16 @@ use Rattle.rv_hart.specs.declared.state.Wait.TheVariants.{Post, Again}
 use Rattle.mp_request.specs.declared.entries.OpenRequest.{OpenRequest}
 use Rattle.mp_request.specs.Table.{request_at}
 use Rattle.mp_match.specs.declared.posts.Sent.{Sent}
-use Rattle.mp_hub.specs.Hub.{HubView}
+use Rattle.mp_types.specs.declared.requests.Request.TheVariants as request
+use Rattle.mp_hub.specs.Hub.{HubView, is_ready}
+use Rattle.mp_wait_laws.proofs.Owned.{AreOwned, owned_after}
+use Rattle.mp_source_laws.proofs.Named.{all_ready_named}
+use Rattle.cl_journal.specs.Journal.{calls_of}
 use Rattle.mp_alike_laws.specs.Renaming.{Renaming, number_by}
 use Rattle.cl_calls.specs.declared.calls.Call.{Call}
 use Rattle.cl_calls.specs.declared.sites.Site.{Site}
 use Rattle.cl_calls.specs.Calls.{call_named}
-use Rattle.cl_names_laws.specs.Named.{open_by, table_by}
+use Rattle.cl_names_laws.specs.Named.{ask_by, open_by, table_by}
 use Rattle.cl_names_laws.proofs.Tables.{request_named}
 use Rattle.cl_state.specs.declared.asking.Ask.{Ask}
 use Rattle.cl_state.specs.Asked.{Part, asked, doing, doing_in, part_of}
@@ -32,11 +36,11 @@ use Rattle.cl_order_laws.specs.Alike.{AlikeRanks, hub_of}
 use Rattle.cl_order_laws.specs.Closed.{IsInVain}
 use Rattle.cl_order_laws.proofs.SureHub.{reply_is}
 use Rattle.cl_rest_laws.specs.Buffering.{NeedBuffers, RestsAmong}
-use Rattle.cl_rest_laws.specs.Rests.{handles_ahead, handles_waited_for, is_behind_call, is_free_to_go, is_message_of, is_open_post, may_wait_for_receipt, post_of_send, rests, rests_before, rests_behind, rests_for, rests_if, rests_in, says_buffered, spelled, stands_behind_call}
-use Rattle.cl_rest_laws.specs.Unpaired.{is_unpaired}
+use Rattle.cl_rest_laws.specs.Rests.{IsElseReady, handles_ahead, handles_waited_for, is_behind_call, is_free_to_go, is_message_of, is_open_post, may_wait_for_receipt, post_of_send, rests, rests_before, rests_behind, rests_for, rests_if, rests_in, says_buffered, spelled, stands_behind_call}
+use Rattle.cl_rest_laws.specs.Unreceived.{is_unreceived}
 use Rattle.cl_rest_laws.proofs.Resting.{rest_law}
 use Rattle.cl_schedule_laws.specs.Laws.{IsLasting}
-use Rattle.cl_reduction_laws.specs.Below.{Turn}
+use Rattle.cl_reduction_laws.specs.Below.{AskOfLive, Turn}
 use Rattle.cl_reduction_laws.specs.Clusters.{IsWithin, Search, State, awake_cluster, cluster_machine, weight_in}
 use Rattle.cl_reduction_laws.specs.Settled.{AllWithin, AreOnSides, IsFit}
 use Rattle.cl_reduction_laws.proofs.Exchanged.{kept_rank}
@@ -97,7 +101,7 @@ module _ (p : Sent → Bool) (hub : HubView) (r hart : ℕ) where
       ∙ ap (λ k. stands_behind_call x hart && sent k) (spelled_awake x hart)
     where
       sent : Call → Bool
-      sent k = list_any (is_unpaired (λ m. is_message_of x.site r k m && p m)) hub.board.lines
+      sent k = list_any (is_unreceived (λ m. is_message_of x.site r k m && p m) hub) hub.board.lines
 
   before_awake : (x : Rank) → StandsAtCall x hart → rests_before p hub r (awake x) hart ≡ rests_before p hub r x hart
   before_awake x stands =
@@ -106,7 +110,7 @@ module _ (p : Sent → Bool) (hub : HubView) (r hart : ℕ) where
       (does_awake x hart stands)
     where
       open_sends : List ℕ → Bool
-      open_sends = list_any (λ h. is_open_post p r hub.board.lines (post_of_send (request_at x.requests h)))
+      open_sends = list_any (λ h. is_open_post p hub r (post_of_send (request_at x.requests h)))
 
   in_awake : (x : Rank) → StandsAtCall x hart → rests_in p hub r (awake x) hart ≡ rests_in p hub r x hart
   in_awake x stands =
@@ -133,7 +137,7 @@ light_goes c r hart x there light =
     ∙ ap (λ b. b || rests_before (λ m. true) hub r x hart)
     (and_left _ _ (and_left _ _ (light_free (mode_of x hart) light)))
     ∙ ap (λ hs. not (says_buffered (part_of x hart).hart)
-    && list_any (λ h. is_open_post (λ m. true) r hub.board.lines (post_of_send (request_at x.requests h))) hs)
+    && list_any (λ h. is_open_post (λ m. true) hub r (post_of_send (request_at x.requests h))) hs)
     (none_ahead x hart light)
     ∙ no_false (not (says_buffered (part_of x hart).hart))
   where
@@ -189,8 +193,9 @@ module _ (search : Search) (image : ImageParts) (ranks : List ℕ) where
     among : is_among ranks r ≡ true
     there : slice_get c.ranks r ≡ Some rank
     rest : RestsAmong ranks c r (search.harts r)
+    else_ready : IsElseReady c r rank (search.harts r)
 
-  -- each of these ranks is held up, and one rests. Who waits may be about to make its call for the first time: clusters are
+  -- each of these ranks is held up, and one by nothing but a receipt. Who waits may be about to make its call for the first time: clusters are
   -- alike whichever it is
   pub record AreQuiet (c : Cluster) : Type 0 where
     held : (r : ℕ) (x : Rank) → is_among ranks r ≡ true → slice_get c.ranks r ≡ Some x → IsHeldUp c r x
@@ -214,6 +219,48 @@ module _ (search : Search) (image : ImageParts) (ranks : List ℕ) where
       among = rest.among;
       rests_there = rests_too r rest.receiver ∙ rest.rests_there;
     }
+
+    -- what else a call waits for is ready in both
+    ready_alike : (r : ℕ) (x y : Rank) → slice_get a.cluster.ranks r ≡ Some x → slice_get b.cluster.ranks r ≡ Some y
+        → AlikeRanks alike.0 (awake x) (awake y) → IsElseReady a.cluster r x (hart r) → IsElseReady b.cluster r y (hart r)
+    ready_alike r x y here there both is posts asks =
+        let sx = (a.good).stands r x here in
+        let sy = (b.good).stands r y there in
+        go (asked x (hart r)) refl (asks_live search a r (hart r) x here)
+        (sym (asks_too alike.0 (hart r) x y sx sy both) ∙ asks)
+      where
+        owned : AreOwned (hub_of a.cluster.journal)
+        owned = owned_after a.cluster.journal.links (calls_of a.cluster.journal.entries)
+
+        all_named : (ns : List ℕ) → asked x (hart r) ≡ Ask.Hub (request.All ns)
+            → AskOfLive (awake_cluster a.cluster) (Ask.Hub (request.All ns)) → map (number_by alike.0) ns ≡ posts
+            → list_all (λ n. is_ready (hub_of b.cluster.journal) r n) posts ≡ true
+        all_named ns e live same =
+            subst (λ ps. list_all (λ n. is_ready (hub_of b.cluster.journal) r n) ps ≡ true) same
+            (all_ready_named alike.0 (hub_of a.cluster.journal) (hub_of b.cluster.journal) (alike.1).hubs owned r ns live
+            ∙ is ns e)
+
+        go : (q : Ask) → asked x (hart r) ≡ q → AskOfLive (awake_cluster a.cluster) q
+            → ask_by alike.0 q ≡ Ask.Hub (request.All posts)
+            → list_all (λ n. is_ready (hub_of b.cluster.journal) r n) posts ≡ true
+        go (Ask.Hub (request.All ns)) e live same =
+            all_named ns e live (let named : map (number_by alike.0) ns ≡ posts = cc in named)
+        go (Ask.Hub (request.Send sync comm dest tag bytes)) e live same = absurd (cc)
+        go (Ask.Hub (request.Recv now comm source tag)) e live same = absurd (cc)
+        go (Ask.Hub (request.Collect n)) e live same = absurd (cc)
+        go (Ask.Hub (request.Finished n)) e live same = absurd (cc)
+        go (Ask.Hub (request.Probe comm source tag)) e live same = absurd (cc)
+        go (Ask.Hub (request.Claim comm source tag)) e live same = absurd (cc)
+        go (Ask.Hub (request.Claimed now n)) e live same = absurd (cc)
+        go (Ask.Hub (request.Init sends comm peer tag parts size)) e live same = absurd (cc)
+        go (Ask.Hub (request.Cut link)) e live same = absurd (cc)
+        go Ask.Plain e live same = absurd (cc)
+        go Ask.Local e live same = absurd (cc)
+        go Ask.Held e live same = absurd (cc)
+        go Ask.Idle e live same = absurd (cc)
+        go (Ask.Ready link part bytes) e live same = absurd (cc)
+        go (Ask.Look link part) e live same = absurd (cc)
+        go (Ask.Freed link part) e live same = absurd (cc)
 
     held_alike : (r : ℕ) (x y : Rank) → IsWithin search a.cluster r → slice_get a.cluster.ranks r ≡ Some x
         → slice_get b.cluster.ranks r ≡ Some y → AlikeRanks alike.0 (awake x) (awake y) → IsHeldUp a.cluster r x
@@ -246,6 +293,7 @@ module _ (search : Search) (image : ImageParts) (ranks : List ℕ) where
             among = w.among;
             there = p.there;
             rest = rest_alike w.r w.rest;
+            else_ready = ready_alike w.r w.rank p.other w.there p.there p.alike w.else_ready;
           };
       home = λ r y there.
           let f = pair_from search r a.cluster b.cluster alike y there in
@@ -309,6 +357,8 @@ module _ (search : Search) (image : ImageParts) (ranks : List ℕ) where
             among = w.among;
             there = kept w.r w.among ∙ w.there;
             rest = rest_stays w.r w.among w.rest;
+            else_ready = (rest_law.ready) c new w.r r (hart r) (hart w.r) w.rank
+                (out_of search image ranks r w.r out w.among) turn w.else_ready;
           };
           home = home_all search image ranks r c new x b.then here b.ranks_are quiet.home (b.home own);
           sides = subst (λ ls. AreOnSides ls search.patterns) (sym (links_stay r (hart r) c new x went)) quiet.sides;
@@ -360,6 +410,7 @@ module _ (search : Search) (image : ImageParts) (ranks : List ℕ) where
             among = w.among;
             there = w.there;
             rest = subst (RestsAmong ranks c w.r) same w.rests_there;
+            else_ready = subst (IsElseReady c w.r w.rank) same w.else_ready;
           };
       home = home;
       sides = sides;
@@ -402,6 +453,7 @@ module _ (search : Search) (image : ImageParts) (ranks : List ℕ) where
             there = w.there;
             inside = below_one search image ranks zero_harts w.r w.rank (quiet.home w.r w.rank w.there).one;
             rests_there = w.rest;
+            else_ready = w.else_ready;
           };
         }
       where

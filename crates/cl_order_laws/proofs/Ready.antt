@@ -280,7 +280,7 @@ module _ (r s : ℕ) (apart : s ≡ r → ⊥) (p : Request) where
           (let n = post_stays h.board.lines g.0 i m here in
           (n.0, subst (λ ms. slice_get ms i ≡ Some n.0) (sym g.2) n.1, n.2))
 
-  line_at : (h : HubView) (i k : ℕ) (m : Line) → slice_get h.board.lines i ≡ Some m → m.partner ≡ Some k
+  pub line_at : (h : HubView) (i k : ℕ) (m : Line) → slice_get h.board.lines i ≡ Some m → m.partner ≡ Some k
       → slice_get (then h).board.lines i ≡ Some m
   line_at h i k m here partner = go (moves all h s p (fits_all s p)).lines
     where
@@ -300,7 +300,7 @@ module _ (r s : ℕ) (apart : s ≡ r → ⊥) (p : Request) where
       go None e is = absurd (cc)
       go (Some m) e is = (let n = post_at h i m e in ap t n.1 ∙ same m n.0 n.2 ∙ is)
 
-  send_too : (h : HubView) (n : ℕ) → is_send_of r (line_of h.board n) ≡ true
+  pub send_too : (h : HubView) (n : ℕ) → is_send_of r (line_of h.board n) ≡ true
       → is_send_of r (line_of (then h).board n) ≡ true
   send_too h zero its = absurd (cc)
   send_too h (suc place) its =
@@ -319,7 +319,7 @@ module _ (r s : ℕ) (apart : s ≡ r → ⊥) (p : Request) where
   idle_too h i m here idle =
       none_waits s h (then h) i (moves all h s p (fits_all s p)).claims (get_within h.board.lines i m here) idle
 
-  partner_too : (h : HubView) (i j : ℕ) → partner_of h.board (suc i) ≡ Some j
+  pub partner_too : (h : HubView) (i j : ℕ) → partner_of h.board (suc i) ≡ Some j
       → partner_of (then h).board (suc i) ≡ Some j
   partner_too h i j is = go (slice_get h.board.lines i) refl is
     where
@@ -373,7 +373,7 @@ module _ (r s : ℕ) (apart : s ≡ r → ⊥) (p : Request) where
       go None e is = absurd (cc)
       go (Some m) e is = one m e m.post refl is
 
-  complete_too : (h : HubView) (n : ℕ) → is_complete h n ≡ true → is_complete (then h) n ≡ true
+  pub complete_too : (h : HubView) (n : ℕ) → is_complete h n ≡ true → is_complete (then h) n ≡ true
   complete_too h zero complete = absurd (cc)
   complete_too h (suc i) complete =
       elim (or_cases (is_finished h.board (suc i)) (was_received h (claim_of h.board (suc i))) complete) [

@@ -1,6 +1,6 @@
 -- The worked rows.
-use Rattle.std.specs.Prelude.{ℕ, zero, suc, ◌-◌, ◌<◌, ◌≡◌, ◌==◌, ◌⊎◌, IsTrue, true, false, List, [], ◌∷◌, length, Some}
-use Rattle.std.specs.List.{slice_get}
+use Rattle.std.specs.Prelude.{ℕ, zero, suc, ◌-◌, ◌<◌, ◌≡◌, ◌==◌, ◌⊎◌, ◌++◌, IsTrue, true, false, List, [], ◌∷◌, length, Some}
+use Rattle.std.specs.List.{list_all, slice_get}
 use Rattle.std.proofs.Common.{refl, ap, subst, sym, inl, inr, arith}
 use Rattle.std.proofs.lemmas.Bool.{eqb-true, or_cases}
 use Rattle.std.proofs.lemmas.Option.{same_Some}
@@ -12,22 +12,27 @@ use Rattle.mp_types.specs.declared.replies.Reply.TheVariants as reply
 use Rattle.mp_types.specs.declared.requests.Request.{Request}
 use Rattle.mp_types.specs.declared.requests.Request.TheVariants as request
 use Rattle.cl_trace.specs.declared.events.Kind.{Kind}
+use Rattle.mp_hub.specs.Hub.{is_ready}
 use Rattle.cl_state.specs.declared.asking.Answer.{Answer}
+use Rattle.cl_state.specs.declared.asking.Ask.TheVariants as ask
 use Rattle.cl_state.specs.Asked.{asked, doing}
 use Rattle.cl_state.specs.Rank.{Rank}
-use Rattle.cl_state.specs.Told.{received, received_message, returned, told}
+use Rattle.cl_state.specs.Told.{found, received, received_message, returned, told, with_status}
 use Rattle.cl_state_laws.specs.Vain.{IsStopped, mode_of}
-use Rattle.cl_machine.specs.Cluster.{Cluster, IsStep}
+use Rattle.cl_machine.specs.declared.steps.Step.{Step}
+use Rattle.cl_machine.specs.Cluster.{Cluster, IsRun, IsStep}
 use Rattle.cl_machine.specs.Journal.{Journal, empty_journal, reply_in, with_entry}
 use Rattle.cl_machine.specs.Worked.{step}
 use Rattle.cl_deadlock_laws.specs.Stuck.{AreStuck, IsStuckHart, is_among}
 use Rattle.cl_deadlock_laws.specs.Worked.{both, ended}
-use Rattle.cl_rest_laws.specs.Rests.{buffered_word, rests_for}
+use Rattle.cl_order_laws.specs.Alike.{hub_of}
+use Rattle.cl_rest_laws.specs.Rests.{IsElseReady, buffered_word, rests_for}
 use Rattle.cl_rest_laws.specs.Buffering.{NeedBuffers, RestsAmong}
-use Rattle.cl_rest_laws.specs.Worked.{BothWait, Claimed, IsRefused, OneAlone, OneGoesOn, OneOfTwo, ReceivePosted, ReceiveWaits}
-use Rattle.cl_rest_laws.specs.Worked.{Received, ReceivedAtWait, SaysBuffered, SaysBufferedAtWait, SaysOther, SendFirst}
-use Rattle.cl_rest_laws.specs.Worked.{SyncAtWait, ToEnded, ToItself, Unreceived, UnreceivedAtWait, WaitsInSsend}
-use Rattle.cl_rest_laws.specs.Worked.{improbe, irecv, isend, isend_saying, isend_twice, issend, recv, send, send_saying, ssend}
+use Rattle.cl_rest_laws.specs.Worked.{BothWait, ClaimReceived, Claimed, IsRefused, OneAlone, OneGoesOn, OneOfTwo, OnlySendLeft}
+use Rattle.cl_rest_laws.specs.Worked.{ReceivePosted, ReceiveWaits, Received, ReceivedAtWait, SaysBuffered, SaysBufferedAtWait, SaysOther}
+use Rattle.cl_rest_laws.specs.Worked.{SendFirst, StuckAnyway, SyncAtWait, ToEnded, ToItself, Unreceived, UnreceivedAtWait, WaitsInSsend}
+use Rattle.cl_rest_laws.specs.Worked.{comes_to_waitall, irecv, isend, isend_irecv, isend_saying, isend_twice, issend, mprobe, recv, send}
+use Rattle.cl_rest_laws.specs.Worked.{send_and_exit, send_saying, ssend}
 
 -- ---- two ranks with a hart each
 
@@ -63,8 +68,9 @@ module _ (ranks : List ℕ) (a b : Rank) (j : Journal) (one_a : length a.harts �
       → IsStopped (mode_of rank hart) ⊎ (IsStuckHart ranks two r rank hart ⊎ RestsAmong ranks two r hart)
 
   -- the first rests until one of them receives
-  first_rests : is_among ranks 0 ≡ true → RestsAmong ranks two 0 0 → IsHeldUp 1 b 0 → NeedBuffers ranks two
-  first_rests is until second = record {
+  first_rests : is_among ranks 0 ≡ true → RestsAmong ranks two 0 0 → IsElseReady two 0 a 0 → IsHeldUp 1 b 0
+      → NeedBuffers ranks two
+  first_rests is until else_ready second = record {
     held = λ r rank hart among here low.
         of_both IsHeldUp (λ among. inr (inr until)) second r rank hart here low among;
     some = record {
@@ -75,6 +81,7 @@ module _ (ranks : List ℕ) (a b : Rank) (j : Journal) (one_a : length a.harts �
       there = refl;
       inside = omega (arith, one_a);
       rests_there = until;
+      else_ready = else_ready;
     };
   }
 
@@ -155,11 +162,39 @@ was_claimed = (
   _,
   (
     _,
-    first_send (improbe 1 0),
+    first_send (mprobe 1 0),
     (
       _,
-      (improbe 1 0, refl, omega arith, omega arith, (request.Claim 0 (Some 0) (Some 7), refl, refl, refl, refl)),
+      (mprobe 1 0, refl, omega arith, omega arith, (request.Claim 0 (Some 0) (Some 7), refl, refl, refl, refl)),
       refl,
+    ),
+  ),
+  refl,
+)
+
+pub claim_received : ClaimReceived
+unfolding asked told doing reply_in returned received received_message found with_status stepped gives imm_result decoded
+claim_received = (
+  _,
+  (
+    _,
+    first_send (mprobe 1 0),
+    (
+      _,
+      (mprobe 1 0, refl, omega arith, omega arith, (request.Claim 0 (Some 0) (Some 7), refl, refl, refl, refl)),
+      (
+        _,
+        (_, refl, omega arith, omega arith, (refl, refl, refl)),
+        (
+          _,
+          (_, refl, omega arith, omega arith, (refl, refl, refl)),
+          (
+            _,
+            (_, refl, omega arith, omega arith, (refl, refl, refl)),
+            (_, (_, refl, omega arith, omega arith, (request.Claimed true 2, refl, refl, refl, refl)), refl),
+          ),
+        ),
+      ),
     ),
   ),
   refl,
@@ -245,7 +280,7 @@ send_first = (
   after_both,
   (_, first_send (send 1 0), (_, second_send, refl)),
   first_rests (0 ∷ 1 ∷ []) sent sent_back after_both.journal refl refl refl
-      (record { receiver = 1; among = refl; rests_there = refl })
+      (record { receiver = 1; among = refl; rests_there = refl }) (λ posts asks. absurd (cc))
       (λ among. inr (inr (record { receiver = 0; among = refl; rests_there = refl }))),
 )
 
@@ -296,7 +331,7 @@ to_itself = (
     refl,
   ),
   first_rests (0 ∷ []) (told (send 0 0) 0 (Answer.Reply (reply.Posted 1 true)) 9) (recv 1 0) _ refl refl refl
-      (record { receiver = 0; among = refl; rests_there = refl }) (λ among. absurd (cc)),
+      (record { receiver = 0; among = refl; rests_there = refl }) (λ posts asks. absurd (cc)) (λ among. absurd (cc)),
 )
 
 pub to_ended : ToEnded
@@ -305,7 +340,7 @@ to_ended = (
   _,
   (_, first_send (ended (recv 1 0)), refl),
   first_rests (0 ∷ 1 ∷ []) sent (ended (recv 1 0)) one_sent refl refl refl
-      (record { receiver = 1; among = refl; rests_there = refl }) (λ among. inl tt),
+      (record { receiver = 1; among = refl; rests_there = refl }) (λ posts asks. absurd (cc)) (λ among. inl tt),
 )
 
 -- ---- a rank that waits by itself
@@ -427,7 +462,7 @@ both_wait = (
     ),
   ),
   first_rests (0 ∷ 1 ∷ []) at_wait other_at_wait after_both.journal refl refl refl
-      (record { receiver = 1; among = refl; rests_there = refl })
+      (record { receiver = 1; among = refl; rests_there = refl }) (λ posts asks. absurd (cc))
       (λ among. inr (inr (record { receiver = 0; among = refl; rests_there = refl }))),
 )
 
@@ -520,3 +555,144 @@ sync_at_wait = (
   ),
   refl,
 )
+
+-- ---- ranks that wait for something else too
+
+abbrev behind_isend_irecv : Rank
+behind_isend_irecv = told (isend_irecv 0 1) 0 (Answer.Reply (reply.Posted 1 true)) 9
+
+abbrev at_irecv : Rank
+at_irecv = told (told behind_isend_irecv 0 Answer.Alone 10) 0 Answer.Alone 11
+
+abbrev behind_irecv : Rank
+behind_irecv = told at_irecv 0 (Answer.Reply (reply.Posted 2 false)) 12
+
+abbrev at_waitall : Rank
+at_waitall = told (told (told behind_irecv 0 Answer.Alone 13) 0 Answer.Alone 14) 0 Answer.Alone 15
+
+abbrev sent_and_posted : Journal
+sent_and_posted =
+    with_entry one_sent
+    (record {
+      rank = 0;
+      hart = 0;
+      clock = 11;
+      stamp = 12;
+      request = request.Recv false 0 (Some 1) (Some 7);
+      reply = reply.Posted 2 false;
+    })
+
+abbrev after_irecv : Rank → Cluster
+after_irecv other = record { ranks = at_waitall ∷ other ∷ []; journal = sent_and_posted; boxes = [] }
+
+module _ (other : Rank) (more : List Step) (end : Cluster) where
+  came_to_waitall : IsRun (after_irecv other) more end → IsRun (both (isend_irecv 0 1) other) (comes_to_waitall ++ more) end
+  unfolding asked told doing reply_in returned stepped gives imm_result decoded
+  came_to_waitall run = (
+    _,
+    (isend_irecv 0 1, refl, omega arith, omega arith, (message, refl, refl, refl, refl)),
+    (
+      _,
+      (_, refl, omega arith, omega arith, (refl, refl, refl)),
+      (
+        _,
+        (_, refl, omega arith, omega arith, (refl, refl, refl)),
+        (
+          _,
+          (_, refl, omega arith, omega arith, (request.Recv false 0 (Some 1) (Some 7), refl, refl, refl, refl)),
+          (
+            _,
+            (_, refl, omega arith, omega arith, (refl, refl, refl)),
+            (
+              _,
+              (_, refl, omega arith, omega arith, (refl, refl, refl)),
+              (_, (_, refl, omega arith, omega arith, (refl, refl, refl)), run),
+            ),
+          ),
+        ),
+      ),
+    ),
+  )
+
+pub stuck_anyway : StuckAnyway
+unfolding asked told doing reply_in returned stepped gives imm_result decoded
+stuck_anyway = (
+  after_irecv (ended (recv 1 0)),
+  came_to_waitall (ended (recv 1 0)) [] (after_irecv (ended (recv 1 0))) refl,
+  λ need. let some = need.some in
+      by some.r some.rank some.hart some.there some.inside some.rests_there some.else_ready,
+)
+  where
+    c : Cluster
+    c = after_irecv (ended (recv 1 0))
+
+    by : (r : ℕ) (rank : Rank) (hart : ℕ) → slice_get c.ranks r ≡ Some rank → hart < length rank.harts
+        → RestsAmong (0 ∷ 1 ∷ []) c r hart → IsElseReady c r rank hart → ⊥
+    by zero rank zero there inside rests_there else_ready =
+        (let no : false ≡ true =
+        subst (λ (x : Rank). IsElseReady c 0 x 0) (sym (same_Some at_waitall rank there)) else_ready (2 ∷ []) refl in
+        absurd (cc))
+    by zero rank (suc hart) there inside rests_there else_ready =
+        (let n : 1 ≡ length rank.harts = ap (λ (y : Rank). length y.harts) (same_Some at_waitall rank there) in
+        absurd (omega (arith, n, inside)))
+    by (suc zero) rank zero there inside rests_there else_ready =
+        (let no : false ≡ true = rests_there.rests_there in absurd (cc))
+    by (suc zero) rank (suc hart) there inside rests_there else_ready =
+        (let n : 1 ≡ length rank.harts = ap (λ (y : Rank). length y.harts) (same_Some (ended (recv 1 0)) rank there) in
+        absurd (omega (arith, n, inside)))
+    by (suc (suc r)) rank hart there inside rests_there else_ready = absurd (cc)
+
+abbrev behind_send : Rank
+behind_send = told (send_and_exit 1 0) 0 (Answer.Reply (reply.Posted 3 true)) 13
+
+abbrev at_exit : Rank
+at_exit = told behind_send 0 Answer.Alone 14
+
+abbrev exited : Rank
+exited = told at_exit 0 Answer.Alone 15
+
+abbrev all_sent : Journal
+all_sent =
+    with_entry sent_and_posted
+    (record {
+      rank = 1;
+      hart = 0;
+      clock = 8;
+      stamp = 13;
+      request = request.Send false 0 0 7 (105 ∷ 10 ∷ []);
+      reply = reply.Posted 3 true;
+    })
+
+pub only_send_left : OnlySendLeft
+unfolding asked told doing reply_in returned stepped gives imm_result decoded
+only_send_left = (
+  record { ranks = at_waitall ∷ exited ∷ []; journal = all_sent; boxes = [] },
+  came_to_waitall (send_and_exit 1 0)
+      (step 1 13 (Kind.Hub (reply.Posted 3 true)) ∷ step 1 14 Kind.Plain ∷ step 1 15 Kind.Local ∷ [])
+      (record { ranks = at_waitall ∷ exited ∷ []; journal = all_sent; boxes = [] }) (
+        _,
+        (
+          send_and_exit 1 0,
+          refl,
+          omega arith,
+          omega arith,
+          (request.Send false 0 0 7 (105 ∷ 10 ∷ []), refl, refl, refl, refl),
+        ),
+        (
+          _,
+          (_, refl, omega arith, omega arith, (refl, refl, refl)),
+          (_, (_, refl, omega arith, omega arith, (refl, refl, refl)), refl),
+        ),
+      ),
+  first_rests (0 ∷ 1 ∷ []) at_waitall exited all_sent refl refl refl
+      (record { receiver = 1; among = refl; rests_there = refl }) (only_one_asked (2 ∷ []) refl) (λ among. inl tt),
+)
+  where
+    c : Cluster
+    c = record { ranks = at_waitall ∷ exited ∷ []; journal = all_sent; boxes = [] }
+
+    only_one_asked : (ns : List ℕ) → list_all (λ n. is_ready (hub_of c.journal) 0 n) ns ≡ true
+        → (posts : List ℕ) → ask.Hub (request.All ns) ≡ ask.Hub (request.All posts)
+        → list_all (λ n. is_ready (hub_of c.journal) 0 n) posts ≡ true
+    only_one_asked ns ready posts asks =
+        (let same : ns ≡ posts = cc in subst (λ xs. list_all (λ n. is_ready (hub_of c.journal) 0 n) xs ≡ true) same ready)

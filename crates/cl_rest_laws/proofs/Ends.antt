@@ -3,11 +3,11 @@
 use Rattle.std.proofs.Common.{◌≡◌, ℕ, zero, suc, ◌⊎◌, inl, inr, List, [], ◌∷◌, length, Bool, true, false, not, Option, Some, None, refl, sym, ap, ◌∙◌, subst, arith, rules}
 use Rattle.std.specs.Prelude.{◌<◌, ◌≤◌, ◌==◌, ◌&&◌, All, IsTrue, cond, get_or, is_some, nat_lt}
 use Rattle.std.specs.List.{list_all, position_or_len, slice_get}
-use Rattle.std.proofs.lemmas.Bool.{and_parts, cases_Bool, cases_lt, eq-eqb, eqb-true, or_left, or_right}
+use Rattle.std.proofs.lemmas.Bool.{and_parts, cases_lt, eq-eqb, eqb-true, or_left, or_right}
 use Rattle.std.proofs.lemmas.List.Elements.{All-get_or, All-head, All-nil, All-push, All-tail, All-weaker}
 use Rattle.std.proofs.lemmas.List.Folds.{list_any-append}
 use Rattle.std.proofs.lemmas.List.Sums.{passes_at_first}
-use Rattle.std.proofs.lemmas.Option.{slice_get_cases, slice_get_within}
+use Rattle.std.proofs.lemmas.Option.{same_Some, slice_get_cases, slice_get_within}
 use Rattle.rv_image_types.specs.Image.{IsCommunicator, IsImage, IsLink}
 use Rattle.rv_image_types.specs.declared.images.ImageParts.{ImageParts}
 use Rattle.rv_image_types.specs.declared.images.Link.{Link}
@@ -52,7 +52,7 @@ use Rattle.cl_deadlock_laws.proofs.Reached.{Comes, comes_on, comes_reached, deed
 use Rattle.cl_order_laws.specs.Alike.{hub_of}
 use Rattle.cl_order_laws.specs.Closed.{IsEnd, IsInVain, Plans, WaitsInVain}
 use Rattle.cl_order_laws.proofs.Walks.{hub_entry}
-use Rattle.cl_rest_laws.specs.Rests.{rests}
+use Rattle.cl_rest_laws.specs.Rests.{MayGoOn, rests}
 use Rattle.cl_rest_laws.specs.Buffering.{NeedBuffers, RestsAmong}
 use Rattle.cl_rest_laws.specs.Ends.{IsEndWhereSendsWait}
 use Rattle.cl_rest_laws.specs.Laws.{EndLaw}
@@ -77,16 +77,17 @@ among_below (suc n) k low =
           (or_left (n == k) false (eq-eqb n k (omega (arith, low, more))))
     ]
 
--- one of them passes the test, or none does
-one_or_none : (p : ℕ → Bool) (n : ℕ) → ((k : ℕ) × (k < n) × (p k ≡ true)) ⊎ ((k : ℕ) → k < n → p k ≡ false)
-one_or_none p zero = inr (λ k low. absurd (omega (arith, low)))
-one_or_none p (suc n) = elim (one_or_none p n) [
+-- one of them is the one or each is the other, where each is either
+one_or_each : (A B : ℕ → Type 0) (n : ℕ) → ((k : ℕ) → k < n → A k ⊎ B k)
+    → ((k : ℕ) × (k < n) × B k) ⊎ ((k : ℕ) → k < n → A k)
+one_or_each A B zero either = inr (λ k low. absurd (omega (arith, low)))
+one_or_each A B (suc n) either = elim (one_or_each A B n (λ k low. either k (omega (arith, low)))) [
   | inl one ↦ (let low = one.1 in inl (one.0, omega (arith, low), one.2))
-  | inr none ↦ elim (cases_Bool (p n)) [
-    | inl is ↦ inl (n, omega arith, is)
-    | inr off ↦ inr (λ k low. elim (cases_lt k n) [
-      | inl less ↦ none k less
-      | inr more ↦ (let same : n ≡ k = omega (arith, low, more) in subst (λ x. p x ≡ false) same off)
+  | inr each ↦ elim (either n (omega arith)) [
+    | inr is ↦ inl (n, omega arith, is)
+    | inl last ↦ inr (λ k low. elim (cases_lt k n) [
+      | inl less ↦ each k less
+      | inr more ↦ (let same : n ≡ k = omega (arith, low, more) in subst A same last)
     ])
   ]
 ]
@@ -375,7 +376,7 @@ module _ (image : ImageParts) (plans : Plans) (c : Cluster) (is_image : IsImage 
       (let came = (to.came).alone r rank there in same_harts image r came.0 rank came.1 ∙ single)
 
   held_at : (r : ℕ) (rank : Rank) (hart : ℕ) → slice_get c.ranks r ≡ Some rank
-      → IsStopped (mode_of rank hart) ⊎ (WaitsInVain c r rank hart ⊎ (rests c r hart ≡ true)) → Held r rank hart
+      → IsStopped (mode_of rank hart) ⊎ (WaitsInVain c r rank hart ⊎ MayGoOn c r rank hart) → Held r rank hart
   held_at r rank hart there (inl is) = inl is
   held_at r rank hart there (inr (inl is)) =
       let came = (to.came).alone r rank there in
@@ -383,7 +384,7 @@ module _ (image : ImageParts) (plans : Plans) (c : Cluster) (is_image : IsImage 
         patient = is.0;
         in_vain = in_vain image is_image c to r rank.site (same_site image r came.0 rank came.1) (asked rank hart) is.1;
       }))
-  held_at r rank hart there (inr (inr is)) = inr (inr (rests_until image is_image c to r hart is))
+  held_at r rank hart there (inr (inr is)) = inr (inr (rests_until image is_image c to r hart is.0))
 
   only_hart : (r : ℕ) (rank : Rank) (hart : ℕ) → slice_get c.ranks r ≡ Some rank → hart < length rank.harts
       → plans r 0 ≡ hart
@@ -394,36 +395,58 @@ module _ (image : ImageParts) (plans : Plans) (c : Cluster) (is_image : IsImage 
   all_held r rank hart among there low =
       subst (λ x. Held r rank x) (only_hart r rank hart there low) (held_at r rank (plans r 0) there (ends r 0 rank there))
 
-  need : (r : ℕ) → r < length c.ranks → rests c r 0 ≡ true → NeedBuffers (below (length c.ranks)) c
-  need r low is = elim ((slice_get_cases c.ranks r).1) [
-    | inl here ↦ record {
-      held = all_held;
-      some = record {
-        r = r;
-        rank = here.0;
-        hart = 0;
-        among = among_below (length c.ranks) r low;
-        there = here.2;
-        inside = (let one = one_hart r here.0 here.2 in omega (arith, one));
-        rests_there = rests_until image is_image c to r 0 is;
-      };
-    }
+  -- a rank whose hart has to go on, if its send doesn't wait
+  record GoesOn (r : ℕ) : Type 0 where
+    rank : Rank
+    there : slice_get c.ranks r ≡ Some rank
+    goes_on : MayGoOn c r rank 0
+
+  need : (r : ℕ) → r < length c.ranks → GoesOn r → NeedBuffers (below (length c.ranks)) c
+  need r low is = record {
+    held = all_held;
+    some = record {
+      r = r;
+      rank = is.rank;
+      hart = 0;
+      among = among_below (length c.ranks) r low;
+      there = is.there;
+      inside = (let one = one_hart r is.rank is.there in omega (arith, one));
+      rests_there = rests_until image is_image c to r 0 is.goes_on.0;
+      else_ready = is.goes_on.1;
+    };
+  }
+
+  -- and one whose hart doesn't
+  abbrev Ends : ℕ → Type 0
+  Ends r =
+      (k : ℕ) (rank : Rank) → slice_get c.ranks r ≡ Some rank
+      → IsStopped (mode_of rank (plans r k)) ⊎ WaitsInVain c r rank (plans r k)
+
+  ends_at : (r : ℕ) (rank : Rank) → slice_get c.ranks r ≡ Some rank
+      → IsStopped (mode_of rank 0) ⊎ WaitsInVain c r rank 0
+      → Ends r
+  ends_at r rank there is k other also =
+      subst (λ h. IsStopped (mode_of other h) ⊎ WaitsInVain c r other h) (sym (first r k))
+      (subst (λ (x : Rank). IsStopped (mode_of x 0) ⊎ WaitsInVain c r x 0) (same_Some rank other (sym there ∙ also)) is)
+
+  either : (r : ℕ) → r < length c.ranks → Ends r ⊎ GoesOn r
+  either r low = elim ((slice_get_cases c.ranks r).1) [
+    | inl here ↦
+        elim (subst (λ h. IsStopped (mode_of here.0 h) ⊎ (WaitsInVain c r here.0 h ⊎ MayGoOn c r here.0 h)) (first r 0)
+        (ends r 0 here.0 here.2)) [
+          | inl stopped ↦ inl (ends_at r here.0 here.2 (inl stopped))
+          | inr more ↦ elim more [
+            | inl waits ↦ inl (ends_at r here.0 here.2 (inr waits))
+            | inr is ↦ inr (record { rank = here.0; there = here.2; goes_on = is })
+          ]
+        ]
     | inr past ↦ (let far = past.0 in absurd (omega (arith, low, far)))
   ]
 
   law : IsEnd plans c ⊎ NeedBuffers (below (length c.ranks)) c
-  law = elim (one_or_none (λ r. rests c r 0) (length c.ranks)) [
+  law = elim (one_or_each Ends GoesOn (length c.ranks) either) [
     | inl one ↦ inr (need one.0 one.1 one.2)
-    | inr none ↦ inl (λ r k rank there. elim (ends r k rank there) [
-      | inl is ↦ inl is
-      | inr more ↦ elim more [
-        | inl is ↦ inr is
-        | inr is ↦
-            let no : true ≡ false =
-            sym (subst (λ x. rests c r x ≡ true) (first r k) is) ∙ none r (slice_get_within c.ranks r rank there) in
-            absurd (cc)
-      ]
-    ])
+    | inr each ↦ inl (λ r k rank there. each r (slice_get_within c.ranks r rank there) k rank there)
   ]
 
 pub end_law : EndLaw

@@ -1,4 +1,5 @@
 pub mod Unpaired
+pub mod Unreceived
 pub mod Resting
 pub mod Buffering
 pub mod Targets

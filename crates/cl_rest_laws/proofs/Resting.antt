@@ -1,34 +1,34 @@
 -- Ranks that rest: what a turn of another rank leaves of it, and that alike clusters have the same ones.
-use Rattle.std.proofs.Common.{◌≡◌, ℕ, zero, suc, inl, inr, List, [], ◌∷◌, length, map, Bool, true, false, Option, Some, None, refl, sym, ap, ◌∙◌, subst}
-use Rattle.std.specs.Prelude.{◌≢◌, ◌==◌, ◌&&◌, ◌||◌, nat_lt, not}
-use Rattle.std.specs.List.{list_any, slice_get, slice_set}
+use Rattle.std.proofs.Common.{◌≡◌, ◌⊎◌, ℕ, zero, suc, inl, inr, List, [], ◌∷◌, length, Bool, true, false, Option, Some, None, refl, sym, ap, ◌∙◌, subst}
+use Rattle.std.specs.Prelude.{◌≢◌, ◌==◌, ◌&&◌, ◌||◌, is_some, nat_lt, not}
+use Rattle.std.specs.List.{list_all, list_any, slice_get, slice_set}
 use Rattle.std.specs.Option.{option_map}
-use Rattle.std.proofs.lemmas.Bool.{and_from, and_parts, cases_Bool, eq-eqb, eqb-true, or_cases, or_left, or_right}
-use Rattle.std.proofs.lemmas.Option.{same_Some, slice_get-map}
+use Rattle.std.proofs.lemmas.Bool.{and_from, and_parts, cases_Bool, cond-false, cond-true, eq-eqb, eqb-true, or_cases, or_left, or_right}
 use Rattle.rv_hart.specs.State.{State}
 use Rattle.rv_hart.specs.declared.state.Mode.{Mode}
 use Rattle.rv_hart.specs.declared.state.Mode.TheVariants.{Running, Waiting, Ended, Trapped}
 use Rattle.rv_hart.specs.declared.state.Wait.TheVariants.{Post as OnPost, Again}
 use Rattle.rv_memory.specs.Memory.{Memory}
+use Rattle.mp_types.specs.declared.requests.Request.{Request}
 use Rattle.mp_match.specs.declared.posts.Line.{Line}
-use Rattle.mp_match.specs.declared.posts.Post.{Post}
 use Rattle.mp_match.specs.declared.posts.Post.TheVariants as post
 use Rattle.mp_match.specs.declared.posts.Sent.{Sent}
-use Rattle.mp_match.specs.Free.{free_in}
-use Rattle.mp_match.specs.Pairs.{may_pair}
-use Rattle.mp_match.proofs.Lines.{Look, is_given, is_new, is_old, look}
-use Rattle.mp_hub.specs.Hub.{HubView}
+use Rattle.mp_match.specs.Board.{is_send_of, line_of, partner_of}
+use Rattle.mp_match.specs.Pairs.{partner_of_line}
+use Rattle.mp_hub.specs.Held.{AreHeld}
+use Rattle.mp_hub.specs.Hub.{HubView, is_complete, is_ready, outcome}
 use Rattle.mp_request.specs.declared.entries.OpenRequest.{OpenRequest}
 use Rattle.mp_request.specs.declared.entries.Progress.{Progress}
 use Rattle.mp_request.specs.declared.entries.Progress.TheVariants as progress
 use Rattle.mp_request.specs.declared.entries.State.{State as RequestState}
 use Rattle.mp_request.specs.declared.entries.State.TheVariants.{Ordinary, Inactive, Active}
 use Rattle.mp_request.specs.Table.{Table, request_at}
-use Rattle.mp_wait_laws.proofs.Lines.{accepted, free_stays}
-use Rattle.mp_wait_laws.proofs.Moves.{GrowsBy, IsBy, all, fits_all, moves}
-use Rattle.mp_alike_laws.specs.Renaming.{Renaming, number_by, turned}
-use Rattle.mp_source_laws.specs.Alike.{AlikeHubs, Wild}
-use Rattle.mp_source_laws.proofs.Likeness.{hub_back}
+use Rattle.mp_wait_laws.proofs.Fresh.{Laid}
+use Rattle.mp_wait_laws.proofs.Moves.{Moves, all, fits_all, moves, stay}
+use Rattle.mp_wait_laws.proofs.Waits.{laid_after}
+use Rattle.mp_alike_laws.specs.Renaming.{Renaming, number_by}
+use Rattle.mp_source_laws.specs.Alike.{Wild}
+use Rattle.cl_journal.specs.Journal.{calls_of}
 use Rattle.cl_calls.specs.declared.calls.Call.{Call}
 use Rattle.cl_calls.specs.declared.calls.Call.TheVariants as call
 use Rattle.cl_calls.specs.declared.sites.Site.{Site}
@@ -46,110 +46,15 @@ use Rattle.cl_machine.specs.declared.steps.Step.{Step}
 use Rattle.cl_machine.specs.Cluster.{CaseOf, Cluster}
 use Rattle.cl_machine.proofs.Lists.{get-set_other}
 use Rattle.cl_order_laws.specs.Alike.{hub_of}
+use Rattle.cl_order_laws.proofs.Ready.{complete_too, line_at, send_too}
 use Rattle.cl_order_laws.proofs.Walks.{hub_entry}
 use Rattle.cl_first_laws.specs.Below.{AreAlike}
 use Rattle.cl_first_laws.specs.Laws.{Turn}
-use Rattle.cl_rest_laws.specs.Unpaired.{is_send, is_unpaired, is_unpaired_at}
-use Rattle.cl_rest_laws.specs.Rests.{handles_ahead, handles_waited_for, is_behind_call, is_free_to_go, is_message_of, is_open_post, may_wait_for_receipt, post_in, post_of_send}
+use Rattle.cl_rest_laws.specs.Unreceived.{is_unreceived}
+use Rattle.cl_rest_laws.specs.Rests.{IsElseReady, handles_ahead, handles_waited_for, is_behind_call, is_free_to_go, is_message_of, is_open_post, may_wait_for_receipt, post_in, post_of_send}
 use Rattle.cl_rest_laws.specs.Rests.{rests, rests_before, rests_behind, rests_for, rests_if, rests_in, says_buffered, spelled, stands_behind_call}
 use Rattle.cl_rest_laws.specs.Laws.{RestLaw}
-use Rattle.cl_rest_laws.proofs.Unpaired.{marked_too, without_partner}
-
--- ---- one of which a test holds
-
-abbrev Found : {A : Type 0} → (A → Bool) → List A → Type 0
-Found {A} q xs = (i : ℕ) × (x : A) × (slice_get xs i ≡ Some x) × (q x ≡ true)
-
-found : {A : Type 0} (q : A → Bool) (xs : List A) → list_any q xs ≡ true → Found q xs
-found q [] any = absurd (cc)
-found q (x ∷ xs) any = go (q x) refl any (found q xs)
-  where
-    go : (b : Bool) → q x ≡ b → (b || list_any q xs) ≡ true → (list_any q xs ≡ true → Found q xs) → Found q (x ∷ xs)
-    go true is any more = (zero, x, refl, is)
-    go false is any more = (let f = more any in (suc f.0, f.1, f.2, f.3))
-
-any_at : {A : Type 0} (q : A → Bool) (xs : List A) (i : ℕ) (x : A) → slice_get xs i ≡ Some x → q x ≡ true
-    → list_any q xs ≡ true
-any_at q [] i x there is = absurd (cc)
-any_at q (y ∷ xs) zero x there is = ap (λ b. b || list_any q xs) (ap q (same_Some y x there) ∙ is)
-any_at q (y ∷ xs) (suc i) x there is = or_right (q y) (list_any q xs) (any_at q xs i x there is)
-
--- ---- a send without a partner
-
--- the post is a send of which it holds, and has no partner
-record IsOpen (p : Sent → Bool) (line : Line) : Type 0 where
-  what : Sent
-  sends : line.post ≡ post.Send what
-  alone : line.partner ≡ None
-  holds : p what ≡ true
-
-opened : (p : Sent → Bool) (line : Line) → is_unpaired p line ≡ true → IsOpen p line
-opened p line unpaired =
-    let alone = without_partner p line unpaired in
-    go line.post refl
-    (sym (ap (λ (o : Option ℕ). is_unpaired p (record { post = line.post; partner = o })) alone) ∙ unpaired)
-  where
-    sent_post : (q : Post) → line.post ≡ q → is_send p (Some line.post) ≡ true → is_send p (Some q) ≡ true
-    sent_post q e is = sym (ap (λ (x : Post). is_send p (Some x)) e) ∙ is
-
-    go : (q : Post) → line.post ≡ q → is_send p (Some line.post) ≡ true → IsOpen p line
-    go (post.Send s) e is =
-        record { what = s; sends = e; alone = without_partner p line unpaired; holds = sent_post (post.Send s) e is }
-    go (post.Receive a) e is = (let no : false ≡ true = sent_post (post.Receive a) e is in absurd (cc))
-    go (post.Claim a) e is = (let no : false ≡ true = sent_post (post.Claim a) e is in absurd (cc))
-
--- ---- a message that nobody has
-
--- the send at this place has no partner, and both hold of its message
-pub record IsLeft (t p : Sent → Bool) (ms : List Line) (i : ℕ) : Type 0 where
-  pub line : Line
-  pub there : slice_get ms i ≡ Some line
-  pub what : Sent
-  pub sends : line.post ≡ post.Send what
-  pub alone : line.partner ≡ None
-  pub its : t what ≡ true
-  pub holds : p what ≡ true
-
-module _ (t p : Sent → Bool) (ms : List Line) where
-  abbrev both : Sent → Bool
-  both m = t m && p m
-
-  left_at : (i : ℕ) (line : Line) → slice_get ms i ≡ Some line → is_unpaired both line ≡ true → IsLeft t p ms i
-  left_at i line there is =
-      let o = opened both line is in
-      let two = and_parts (t o.what) (p o.what) o.holds in
-      record {
-        line = line;
-        there = there;
-        what = o.what;
-        sends = o.sends;
-        alone = o.alone;
-        its = two.0;
-        holds = two.1;
-      }
-
-  left_unpaired : (i : ℕ) (l : IsLeft t p ms i) → is_unpaired both l.line ≡ true
-  left_unpaired i l =
-      ap (λ (o : Option ℕ). is_unpaired both (record { post = (l.line).post; partner = o })) l.alone
-      ∙ ap (λ (q : Post). is_send both (Some q)) l.sends
-      ∙ and_from (t l.what) (p l.what) l.its l.holds
-
-  any_left : list_any (is_unpaired both) ms ≡ true → (i : ℕ) × IsLeft t p ms i
-  any_left any = let f = found (is_unpaired both) ms any in (f.0, left_at f.0 f.1 f.2 f.3)
-
-  left_any : (i : ℕ) → IsLeft t p ms i → list_any (is_unpaired both) ms ≡ true
-  left_any i l = any_at (is_unpaired both) ms i l.line l.there (left_unpaired i l)
-
-  -- of the post of a number
-  place_left : (i : ℕ) → is_unpaired_at both ms (suc i) ≡ true → IsLeft t p ms i
-  place_left i is = go (slice_get ms i) refl is
-    where
-      go : (o : Option Line) → slice_get ms i ≡ o → is_send both (free_in o) ≡ true → IsLeft t p ms i
-      go None there is = absurd (cc)
-      go (Some line) there is = left_at i line there is
-
-  left_place : (i : ℕ) → IsLeft t p ms i → is_unpaired_at both ms (suc i) ≡ true
-  left_place i l = ap (λ o. is_send both (free_in o)) l.there ∙ left_unpaired i l
+use Rattle.cl_rest_laws.proofs.Unreceived.{IsLeft, any_at, any_left, found, held_after, left_any, left_place, place_left, same_any, same_place, stays_left, was_left}
 
 -- ---- why a hart rests
 
@@ -157,39 +62,39 @@ module _ (t p : Sent → Bool) (ms : List Line) where
 abbrev pub is_sent_by : ℕ → Sent → Bool
 is_sent_by r m = (m.envelope.source == r) && not m.sync
 
-module _ (p : Sent → Bool) (r : ℕ) (ms : List Line) where
-  open_left : (o : Option ℕ) → is_open_post p r ms o ≡ true
-      → (i : ℕ) × (o ≡ Some (suc i)) × IsLeft (is_sent_by r) p ms i
+module _ (p : Sent → Bool) (hub : HubView) (r : ℕ) where
+  open_left : (o : Option ℕ) → is_open_post p hub r o ≡ true
+      → (i : ℕ) × (o ≡ Some (suc i)) × IsLeft (is_sent_by r) p hub i
   open_left None is = absurd (cc)
   open_left (Some zero) is = absurd (cc)
-  open_left (Some (suc i)) is = (i, refl, place_left (is_sent_by r) p ms i is)
+  open_left (Some (suc i)) is = (i, refl, place_left (is_sent_by r) p hub i is)
 
-  left_open : (o : Option ℕ) (i : ℕ) → o ≡ Some (suc i) → IsLeft (is_sent_by r) p ms i → is_open_post p r ms o ≡ true
-  left_open o i names left = ap (is_open_post p r ms) names ∙ left_place (is_sent_by r) p ms i left
+  left_open : (o : Option ℕ) (i : ℕ) → o ≡ Some (suc i) → IsLeft (is_sent_by r) p hub i → is_open_post p hub r o ≡ true
+  left_open o i names left = ap (is_open_post p hub r) names ∙ left_place (is_sent_by r) p hub i left
 
--- it stands behind the send of a message that nobody has, or is about to wait for such a one
+-- it stands behind the send of a message that nobody received, or is about to wait for such a one
 pub data WhyRests (p : Sent → Bool) (hub : HubView) (r : ℕ) (rank : Rank) (hart : ℕ) : Type 0 where
   behind : stands_behind_call rank hart ≡ true → (i : ℕ)
-      → IsLeft (is_message_of rank.site r (spelled rank hart)) p hub.board.lines i → WhyRests p hub r rank hart
+      → IsLeft (is_message_of rank.site r (spelled rank hart)) p hub i → WhyRests p hub r rank hart
   before : not (says_buffered (part_of rank hart).hart) ≡ true → (j handle i : ℕ)
       → slice_get (handles_ahead rank hart) j ≡ Some handle
       → post_of_send (request_at rank.requests handle) ≡ Some (suc i)
-      → IsLeft (is_sent_by r) p hub.board.lines i → WhyRests p hub r rank hart
+      → IsLeft (is_sent_by r) p hub i → WhyRests p hub r rank hart
 
 module _ (p : Sent → Bool) (hub : HubView) (r : ℕ) (rank : Rank) (hart : ℕ) where
   abbrev is_open_ahead : ℕ → Bool
-  is_open_ahead handle = is_open_post p r hub.board.lines (post_of_send (request_at rank.requests handle))
+  is_open_ahead handle = is_open_post p hub r (post_of_send (request_at rank.requests handle))
 
   pub why_rests : rests_in p hub r rank hart ≡ true → WhyRests p hub r rank hart
   why_rests is = elim (or_cases (rests_behind p hub r rank hart) (rests_before p hub r rank hart) is) [
     | inl one ↦
         let two = and_parts (stands_behind_call rank hart) _ one in
-        let left = any_left (is_message_of rank.site r (spelled rank hart)) p hub.board.lines two.1 in
+        let left = any_left (is_message_of rank.site r (spelled rank hart)) p hub two.1 in
         behind two.0 left.0 left.1
     | inr other ↦
         let two = and_parts (not (says_buffered (part_of rank hart).hart)) _ other in
         let f = found is_open_ahead (handles_ahead rank hart) two.1 in
-        let left = open_left p r hub.board.lines (post_of_send (request_at rank.requests f.1)) f.3 in
+        let left = open_left p hub r (post_of_send (request_at rank.requests f.1)) f.3 in
         before two.0 f.0 f.1 left.0 f.2 left.1 left.2
   ]
 
@@ -197,12 +102,12 @@ module _ (p : Sent → Bool) (hub : HubView) (r : ℕ) (rank : Rank) (hart : ℕ
   so_rests (behind free i left) =
       or_left (rests_behind p hub r rank hart) (rests_before p hub r rank hart)
       (and_from (stands_behind_call rank hart) _ free
-      (left_any (is_message_of rank.site r (spelled rank hart)) p hub.board.lines i left))
+      (left_any (is_message_of rank.site r (spelled rank hart)) p hub i left))
   so_rests (before says j handle i ahead names left) =
       or_right (rests_behind p hub r rank hart) (rests_before p hub r rank hart)
       (and_from (not (says_buffered (part_of rank hart).hart)) _ says
       (any_at is_open_ahead (handles_ahead rank hart) j handle ahead
-      (left_open p r hub.board.lines (post_of_send (request_at rank.requests handle)) i names left)))
+      (left_open p hub r (post_of_send (request_at rank.requests handle)) i names left)))
 
 -- ---- the messages of one rank
 
@@ -220,9 +125,9 @@ named_of site r _ m is = absurd (cc)
 sent_of : (r : ℕ) → IsOf r (is_sent_by r)
 sent_of r m is = eqb-true m.envelope.source r (and_parts (m.envelope.source == r) (not m.sync) is).0
 
--- where each message of the rank that nobody has here is one that nobody has there
+-- where each message of the rank that nobody received here is one that nobody received there
 module _ (p q : Sent → Bool) (here there : HubView) (r : ℕ)
-    (kept : (t : Sent → Bool) (i : ℕ) → IsOf r t → IsLeft t p here.board.lines i → IsLeft t q there.board.lines i) where
+    (kept : (t : Sent → Bool) (i : ℕ) → IsOf r t → IsLeft t p here i → IsLeft t q there i) where
   rests_too : (o : Option Rank) (hart : ℕ) → rests_if p here r o hart ≡ true → rests_if q there r o hart ≡ true
   rests_too None hart is = is
   rests_too (Some rank) hart is = so_rests q there r rank hart (go (why_rests p here r rank hart is))
@@ -233,78 +138,63 @@ module _ (p q : Sent → Bool) (here there : HubView) (r : ℕ)
       go (before says j handle i ahead names left) =
           before says j handle i ahead names (kept (is_sent_by r) i (sent_of r) left)
 
--- ---- what a post of another rank leaves of it
+-- ---- posts that are ready
 
-module _ (s : ℕ) (old new : List Line) (r : ℕ) (grows : GrowsBy all s old new) (t p : Sent → Bool) (of : IsOf r t)
-    (i : ℕ) where
-  -- no such send is new
-  was_left : s ≢ r → IsLeft t p new i → IsLeft t p old i
-  was_left apart left = go grows
+-- what is ready for a rank stays so behind a call of another one
+module _ (r s : ℕ) (apart : s ≡ r → ⊥) (q : Request) (h : HubView) where
+  abbrev then : HubView
+  then = (outcome h s q).1
+
+  one_stays : (n : ℕ) → is_ready h r n ≡ true → is_ready then r n ≡ true
+  one_stays n ready = elim (cases_Bool (is_send_of r (line_of h.board n))) [
+    | inl its ↦
+        cond-true (is_send_of r (line_of then.board n)) (is_complete then n) (is_some (partner_of then.board n))
+        (send_too r s apart q h n its)
+        ∙ complete_too r s apart q h n
+        (sym (cond-true (is_send_of r (line_of h.board n)) (is_complete h n) (is_some (partner_of h.board n)) its) ∙ ready)
+    | inr none ↦
+        taken n none
+        (sym (cond-false (is_send_of r (line_of h.board n)) (is_complete h n) (is_some (partner_of h.board n)) none) ∙ ready)
+  ]
     where
-      go : GrowsBy all s old new → IsLeft t p old i
-      go (inl same) = subst (λ ms. IsLeft t p ms i) same left
-      go (inr g) = by (look old g.0 i left.line (sym (ap (λ ms. slice_get ms i) g.2) ∙ left.there))
+      taken : (n : ℕ) → is_send_of r (line_of h.board n) ≡ false → is_some (partner_of h.board n) ≡ true
+          → is_ready then r n ≡ true
+      taken zero none some = absurd (cc)
+      taken (suc i) none some = go (slice_get h.board.lines i) refl none some
         where
-          other_post : (q : Post) → IsBy all s q → q ≡ post.Send left.what → ⊥
-          other_post (post.Send x) its e =
-              let same : x ≡ left.what = (cc) in
-              apart (sym its.0 ∙ ap (λ (y : Sent). y.envelope.source) same ∙ of left.what left.its)
-          other_post (post.Receive a) its e = absurd (cc)
-          other_post (post.Claim a) its e = absurd (cc)
+          by : (m : Line) → slice_get h.board.lines i ≡ Some m → is_send_of r (Some m) ≡ false → (o : Option ℕ)
+              → m.partner ≡ o → is_some o ≡ true → is_ready then r (suc i) ≡ true
+          by m here none None e some = absurd (cc)
+          by m here none (Some j) e some =
+              let same = line_at r s apart q h i j m here e in
+              cond-false (is_send_of r (line_of then.board (suc i))) (is_complete then (suc i))
+              (is_some (partner_of then.board (suc i))) (ap (is_send_of r) same ∙ none)
+              ∙ ap (λ o. is_some (partner_of_line o)) same ∙ ap is_some e
 
-          by : Look old g.0 i left.line → IsLeft t p old i
-          by (is_new place e) = absurd (other_post g.0 g.1 (sym (ap (λ (x : Line). x.post) e) ∙ left.sends))
-          by (is_old there) = record {
-            line = left.line;
-            there = there;
-            what = left.what;
-            sends = left.sends;
-            alone = left.alone;
-            its = left.its;
-            holds = left.holds;
-          }
-          by (is_given x there chosen e) =
-              let taken : Some (length old) ≡ None = sym (ap (λ (y : Line). y.partner) e) ∙ left.alone in
-              absurd (cc)
+          go : (o : Option Line) → slice_get h.board.lines i ≡ o → is_send_of r o ≡ false
+              → is_some (partner_of_line o) ≡ true → is_ready then r (suc i) ≡ true
+          go None here none some = absurd (cc)
+          go (Some m) here none some = by m here none m.partner refl some
 
-  -- and each stays that isn't sent to that rank
-  stays_left : ((m : Sent) → p m ≡ true → m.dest ≢ s) → IsLeft t p old i → IsLeft t p new i
-  stays_left away left = go grows
-    where
-      apart : (q : Post) → IsBy all s q → may_pair q (post.Send left.what) ≡ true → ⊥
-      apart (post.Send x) its pair = absurd (cc)
-      apart (post.Receive a) its pair = away left.what left.holds ((accepted a left.what pair).0 ∙ its)
-      apart (post.Claim a) its pair = away left.what left.holds ((accepted a left.what pair).0 ∙ its)
-
-      go : GrowsBy all s old new → IsLeft t p new i
-      go (inl same) = subst (λ ms. IsLeft t p ms i) (sym same) left
-      go (inr g) = record {
-        line = left.line;
-        there = ap (λ ms. slice_get ms i) g.2
-            ∙ free_stays old g.0 i left.line left.there
-            (λ pair. apart g.0 g.1 (subst (λ (q : Post). may_pair g.0 q ≡ true) left.sends pair));
-        what = left.what;
-        sends = left.sends;
-        alone = left.alone;
-        its = left.its;
-        holds = left.holds;
-      }
+  pub all_stay : (posts : List ℕ) → list_all (λ n. is_ready h r n) posts ≡ true
+      → list_all (λ n. is_ready then r n) posts ≡ true
+  all_stay [] ready = refl
+  all_stay (n ∷ ns) ready =
+      let two = and_parts (is_ready h r n) (list_all (λ m. is_ready h r m) ns) ready in
+      and_from (is_ready then r n) (list_all (λ m. is_ready then r m) ns) (one_stays n two.0) (all_stay ns two.1)
 
 -- ---- a turn
 
 module _ (old new : Cluster) (e : Step) (x : Rank) where
-  -- another rank is as it was, and the hub has a post more of this one, or none
+  -- another rank is as it was, and the hub has had a call of this one, or none
   record IsTurnOf : Type 0 where
     then : Rank
     ranks : new.ranks ≡ slice_set old.ranks e.rank then
-    grows : GrowsBy all e.rank (hub_of old.journal).board.lines (hub_of new.journal).board.lines
+    calls : (hub_of new.journal ≡ hub_of old.journal)
+        ⊎ ((q : Request) × (hub_of new.journal ≡ (outcome (hub_of old.journal) e.rank q).1))
 
   no_call : (then : Rank) → new.ranks ≡ slice_set old.ranks e.rank then → new.journal ≡ old.journal → IsTurnOf
-  no_call then ranks same = record {
-    then = then;
-    ranks = ranks;
-    grows = inl (ap (λ j. (hub_of j).board.lines) same);
-  }
+  no_call then ranks same = record { then = then; ranks = ranks; calls = inl (ap hub_of same) }
 
   case_turn : (kind : Kind) → CaseOf old e x kind new → IsTurnOf
   case_turn Kind.Plain c = no_call _ (ap (λ (k : Cluster). k.ranks) c.2) (ap (λ (k : Cluster). k.journal) c.2)
@@ -314,14 +204,15 @@ module _ (old new : Cluster) (e : Step) (x : Rank) where
   case_turn (Kind.Hub reply) c = record {
     then = _;
     ranks = ap (λ (k : Cluster). k.ranks) c.4;
-    grows = subst (λ h. GrowsBy all e.rank (hub_of old.journal).board.lines h.board.lines)
-        (sym (ap (λ (k : Cluster). hub_of k.journal) c.4 ∙ hub_entry old.journal _))
-        (moves all (hub_of old.journal) e.rank c.0 (fits_all e.rank c.0)).lines;
+    calls = inr (c.0, ap (λ (k : Cluster). hub_of k.journal) c.4 ∙ hub_entry old.journal _);
   }
   case_turn Kind.Ready c = no_call _ (ap (λ (k : Cluster). k.ranks) c.8) (ap (λ (k : Cluster). k.journal) c.8)
   case_turn Kind.Take c = no_call _ (ap (λ (k : Cluster). k.ranks) c.8) (ap (λ (k : Cluster). k.journal) c.8)
   case_turn Kind.Freed c = no_call _ (ap (λ (k : Cluster). k.ranks) c.7) (ap (λ (k : Cluster). k.journal) c.7)
   case_turn Kind.Miss c = no_call _ (ap (λ (k : Cluster). k.ranks) c.4) (ap (λ (k : Cluster). k.journal) c.4)
+
+laid_of : (c : Cluster) → Laid (hub_of c.journal)
+laid_of c = laid_after c.journal.links (calls_of c.journal.entries)
 
 -- what a turn of one rank leaves to another
 module _ (c new : Cluster) (r s which : ℕ) (other : s ≢ r) (turn : Turn s which c new) where
@@ -333,9 +224,25 @@ module _ (c new : Cluster) (r s which : ℕ) (other : s ≢ r) (turn : Turn s wh
       ap (λ xs. slice_get xs r) turned_so.ranks
       ∙ get-set_other c.ranks (turn.step).rank r turned_so.then (λ same. other (sym turn.rank ∙ same))
 
-  pub grown : GrowsBy all s (hub_of c.journal).board.lines (hub_of new.journal).board.lines
-  grown =
-      subst (λ k. GrowsBy all k (hub_of c.journal).board.lines (hub_of new.journal).board.lines) turn.rank turned_so.grows
+  pub moved : Moves all s (hub_of c.journal) (hub_of new.journal)
+  moved = elim turned_so.calls [
+    | inl same ↦
+        record { lines = inl (ap (λ (h : HubView). h.board.lines) same); claims = stay (ap (λ (h : HubView). h.claims) same) }
+    | inr called ↦
+        subst (λ k. Moves all k (hub_of c.journal) (hub_of new.journal)) turn.rank
+        (subst (λ (h : HubView). Moves all (turn.step).rank (hub_of c.journal) h) (sym called.1)
+        (moves all (hub_of c.journal) (turn.step).rank called.0 (fits_all (turn.step).rank called.0)))
+  ]
+
+  -- posts that are ready stay so
+  ready_too : (posts : List ℕ) → list_all (λ n. is_ready (hub_of c.journal) r n) posts ≡ true
+      → list_all (λ n. is_ready (hub_of new.journal) r n) posts ≡ true
+  ready_too posts all_ready = elim turned_so.calls [
+    | inl same ↦ subst (λ (h : HubView). list_all (λ n. is_ready h r n) posts ≡ true) (sym same) all_ready
+    | inr called ↦
+        subst (λ (h : HubView). list_all (λ n. is_ready h r n) posts ≡ true) (sym called.1)
+        (all_stay r (turn.step).rank (λ same. other (sym turn.rank ∙ same)) called.0 (hub_of c.journal) posts all_ready)
+  ]
 
 -- ---- where a hart rests
 
@@ -358,7 +265,7 @@ pub record RestsOn (c : Cluster) (k : ℕ) : Type 0 where
 pub rests_on : (c : Cluster) (r hart k : ℕ) → rests_for c r hart k ≡ true → RestsOn c k
 rests_on c r hart k is = go (slice_get c.ranks r) is
   where
-    on : (t : Sent → Bool) (i : ℕ) → IsLeft t (is_to k) (hub_of c.journal).board.lines i → RestsOn c k
+    on : (t : Sent → Bool) (i : ℕ) → IsLeft t (is_to k) (hub_of c.journal) i → RestsOn c k
     on t i left = record {
       place = i;
       line = left.line;
@@ -379,14 +286,14 @@ rests_on c r hart k is = go (slice_get c.ranks r) is
 some : (c : Cluster) (r hart : ℕ) → rests c r hart ≡ true → (k : ℕ) × (rests_for c r hart k ≡ true)
 some c r hart is = go (slice_get c.ranks r) is
   where
-    addressed : (t : Sent → Bool) (i : ℕ) (left : IsLeft t any_message (hub_of c.journal).board.lines i)
-        → IsLeft t (is_to (left.what).dest) (hub_of c.journal).board.lines i
+    addressed : (t : Sent → Bool) (i : ℕ) (left : IsLeft t any_message (hub_of c.journal) i)
+        → IsLeft t (is_to (left.what).dest) (hub_of c.journal) i
     addressed t i left = record {
       line = left.line;
       there = left.there;
       what = left.what;
       sends = left.sends;
-      alone = left.alone;
+      left = left.left;
       its = left.its;
       holds = eq-eqb (left.what).dest (left.what).dest refl;
     }
@@ -416,7 +323,7 @@ each c r hart k is =
       there = left.there;
       what = left.what;
       sends = left.sends;
-      alone = left.alone;
+      left = left.left;
       its = left.its;
       holds = refl;
     })
@@ -428,8 +335,8 @@ away c new r s which hart other turn is = elim (cases_Bool (rests new r hart)) [
   | inl on ↦
       let was : rests c r hart ≡ true =
       rests_too any_message any_message (hub_of new.journal) (hub_of c.journal) r
-      (λ t i of left. was_left s (hub_of c.journal).board.lines (hub_of new.journal).board.lines r
-      (grown c new r s which other turn) t any_message of i other left)
+      (λ t i of left. was_left s (hub_of c.journal) (hub_of new.journal) (moved c new r s which other turn) (laid_of c) r t
+      any_message of i other left)
       (slice_get c.ranks r) hart
       (sym (ap (λ o. rests_if any_message (hub_of new.journal) r o hart) (same_rank c new r s which other turn)) ∙ on) in
       let no : true ≡ false = sym was ∙ is in absurd (cc)
@@ -441,71 +348,18 @@ stays : (c new : Cluster) (r s which hart k : ℕ) → s ≢ r → s ≢ k → T
 stays c new r s which hart k other apart turn is =
     ap (λ o. rests_if (is_to k) (hub_of new.journal) r o hart) (same_rank c new r s which other turn)
     ∙ rests_too (is_to k) (is_to k) (hub_of c.journal) (hub_of new.journal) r
-    (λ t i of left. stays_left s (hub_of c.journal).board.lines (hub_of new.journal).board.lines r
-    (grown c new r s which other turn) t (is_to k) of i
+    (λ t i of left. stays_left s (hub_of c.journal) (hub_of new.journal) (moved c new r s which other turn) (laid_of c) r t
+    (is_to k) of i
     (λ m to same. apart (sym same ∙ eqb-true m.dest k to)) left)
     (slice_get c.ranks r) hart is
 
+-- what else its call waits for stays there
+ready : (c new : Cluster) (r s which hart : ℕ) (rank : Rank) → s ≢ r → Turn s which c new → IsElseReady c r rank hart
+    → IsElseReady new r rank hart
+ready c new r s which hart rank other turn is = λ posts asks.
+    ready_too c new r s which other turn posts (is posts asks)
+
 -- ---- alike clusters
-
-same_test : (x y : Bool) → (x ≡ true → y ≡ true) → (y ≡ true → x ≡ true) → x ≡ y
-same_test true y more less = sym (more refl)
-same_test false false more less = refl
-same_test false true more less = less refl
-
-module _ (p : Sent → Bool) (ms : List Line) (i : ℕ) where
-  marked : is_unpaired_at p ms (suc i) ≡ true → slice_get (map (is_unpaired p) ms) i ≡ Some true
-  marked is = slice_get-map (is_unpaired p) ms i ∙ go (slice_get ms i) is
-    where
-      go : (o : Option Line) → is_send p (free_in o) ≡ true → option_map (is_unpaired p) o ≡ Some true
-      go None is = absurd (cc)
-      go (Some line) is = ap (λ b. Some b) is
-
-  marked_back : slice_get (map (is_unpaired p) ms) i ≡ Some true → is_unpaired_at p ms (suc i) ≡ true
-  marked_back is = go (slice_get ms i) (sym (slice_get-map (is_unpaired p) ms i) ∙ is)
-    where
-      go : (o : Option Line) → option_map (is_unpaired p) o ≡ Some true → is_send p (free_in o) ≡ true
-      go None is = absurd (cc)
-      go (Some line) is = same_Some (is_unpaired p line) true is
-
-  at_any : is_unpaired_at p ms (suc i) ≡ true → list_any (is_unpaired p) ms ≡ true
-  at_any is = go (slice_get ms i) refl is
-    where
-      go : (o : Option Line) → slice_get ms i ≡ o → is_send p (free_in o) ≡ true → list_any (is_unpaired p) ms ≡ true
-      go None there is = absurd (cc)
-      go (Some line) there is = any_at (is_unpaired p) ms i line there is
-
-any_marked : (p : Sent → Bool) (ms : List Line) → list_any (is_unpaired p) ms ≡ true
-    → (i : ℕ) × (is_unpaired_at p ms (suc i) ≡ true)
-any_marked p ms any =
-    let f = found (is_unpaired p) ms any in
-    (f.0, ap (λ o. is_send p (free_in o)) f.2 ∙ f.3)
-
-module _ {wild : Wild} (names : Renaming) (h k : HubView) (alike : AlikeHubs wild names h k) (p : Sent → Bool) where
-  place_too : (i : ℕ) → is_unpaired_at p h.board.lines (suc i) ≡ true
-      → is_unpaired_at p k.board.lines (suc (names.to i)) ≡ true
-  place_too i is =
-      marked_back p k.board.lines (names.to i)
-      (marked_too names h.board k.board alike.board p i (marked p h.board.lines i is))
-
-  one_too : list_any (is_unpaired p) h.board.lines ≡ true → list_any (is_unpaired p) k.board.lines ≡ true
-  one_too any =
-      let f = any_marked p h.board.lines any in
-      at_any p k.board.lines (names.to f.0) (place_too f.0 f.1)
-
-module _ {wild : Wild} (names : Renaming) (h k : HubView) (alike : AlikeHubs wild names h k) (p : Sent → Bool) where
-  same_any : list_any (is_unpaired p) k.board.lines ≡ list_any (is_unpaired p) h.board.lines
-  same_any =
-      same_test _ _ (one_too (turned names) k h (hub_back names h k alike) p) (one_too names h k alike p)
-
-  same_place : (number : ℕ)
-      → is_unpaired_at p k.board.lines (number_by names number) ≡ is_unpaired_at p h.board.lines number
-  same_place zero = refl
-  same_place (suc i) =
-      same_test _ _
-      (λ is. subst (λ j. is_unpaired_at p h.board.lines (suc j) ≡ true) (names.there i)
-      (place_too (turned names) k h (hub_back names h k alike) p (names.to i) is))
-      (place_too names h k alike p i)
 
 -- where a hart stands doesn't depend on the numbers of posts
 free_by : (names : Renaming) (mode : Mode) → is_free_to_go (mode_by names mode) ≡ is_free_to_go mode
@@ -537,32 +391,38 @@ module _ (wild : Wild) (a b : Cluster) (r hart : ℕ) (alike : AreAlike wild a b
   abbrev k : HubView
   k = hub_of b.journal
 
+  held_h : AreHeld h.board h.claims
+  held_h = held_after a.journal.links (calls_of a.journal.entries)
+
+  held_k : AreHeld k.board k.claims
+  held_k = held_after b.journal.links (calls_of b.journal.entries)
+
   -- a request's send is open by either number of its post
-  of_progress : (going : Progress) → is_open_post p r k.board.lines (post_in (Ordinary (progress_by alike.0 going)))
-      ≡ is_open_post p r h.board.lines (post_in (Ordinary going))
+  of_progress : (going : Progress) → is_open_post p k r (post_in (Ordinary (progress_by alike.0 going)))
+      ≡ is_open_post p h r (post_in (Ordinary going))
   of_progress progress.Finished = refl
   of_progress (progress.Sent post) =
-      same_place alike.0 h k (alike.1).hubs (λ m. is_sent_by r m && p m) post
+      same_place alike.0 h k (alike.1).hubs held_h held_k (λ m. is_sent_by r m && p m) post
   of_progress (progress.OnPost post) = refl
   of_progress progress.InPhase = refl
 
   of_state : (s : RequestState)
-      → is_open_post p r k.board.lines (post_in (state_by alike.0 s)) ≡ is_open_post p r h.board.lines (post_in s)
+      → is_open_post p k r (post_in (state_by alike.0 s)) ≡ is_open_post p h r (post_in s)
   of_state (Ordinary going) = of_progress going
   of_state Inactive = refl
   of_state (Active going) = of_progress going
 
   of_request : (o : Option OpenRequest)
-      → is_open_post p r k.board.lines (post_of_send (option_map (open_by alike.0) o))
-      ≡ is_open_post p r h.board.lines (post_of_send o)
+      → is_open_post p k r (post_of_send (option_map (open_by alike.0) o))
+      ≡ is_open_post p h r (post_of_send o)
   of_request None = refl
   of_request (Some request) = of_state request.state
 
   open_by_names : (table : Table) (handle : ℕ)
-      → is_open_post p r k.board.lines (post_of_send (request_at (table_by alike.0 table) handle))
-      ≡ is_open_post p r h.board.lines (post_of_send (request_at table handle))
+      → is_open_post p k r (post_of_send (request_at (table_by alike.0 table) handle))
+      ≡ is_open_post p h r (post_of_send (request_at table handle))
   open_by_names table handle =
-      ap (λ o. is_open_post p r k.board.lines (post_of_send o))
+      ap (λ o. is_open_post p k r (post_of_send o))
       (request_named alike.0 (number_by alike.0) table handle)
       ∙ of_request (request_at table handle)
 
@@ -570,7 +430,7 @@ module _ (wild : Wild) (a b : Cluster) (r hart : ℕ) (alike : AreAlike wild a b
   abbrev is_behind : HubView → Site → Part → Bool
   is_behind hub site part =
       (is_free_to_go part.hart.mode && (is_behind_call part.memory part.hart && may_wait_for_receipt part.hart))
-      && list_any (is_unpaired (λ m. is_message_of site r (call_named part.hart) m && p m)) hub.board.lines
+      && list_any (is_unreceived (λ m. is_message_of site r (call_named part.hart) m && p m) hub) hub.board.lines
 
   abbrev is_before : (ℕ → Bool) → State → List ℕ → Bool
   is_before is_open hart handles = not (says_buffered hart) && list_any is_open handles
@@ -581,17 +441,17 @@ module _ (wild : Wild) (a b : Cluster) (r hart : ℕ) (alike : AreAlike wild a b
       let part = part_of rank hart in
       ap (is_behind k rank.site) (part_named alike.0 (number_by alike.0) rank hart)
       ∙ ap (λ x. (x && (is_behind_call part.memory part.hart && may_wait_for_receipt part.hart))
-      && list_any (is_unpaired (λ m. is_message_of rank.site r (call_named part.hart) m && p m)) k.board.lines)
+      && list_any (is_unreceived (λ m. is_message_of rank.site r (call_named part.hart) m && p m) k) k.board.lines)
       (free_by alike.0 part.hart.mode)
       ∙ ap (λ x. stands_behind_call rank hart && x)
-      (same_any alike.0 h k (alike.1).hubs (λ m. is_message_of rank.site r (spelled rank hart) m && p m))
+      (same_any alike.0 h k (alike.1).hubs held_h held_k (λ m. is_message_of rank.site r (spelled rank hart) m && p m))
 
   before_by_names : (rank : Rank)
       → rests_before p k r (rank_by alike.0 rank) hart ≡ rests_before p h r rank hart
   before_by_names rank =
       let part = part_of rank hart in
       let is_open : ℕ → Bool =
-      λ handle. is_open_post p r k.board.lines (post_of_send (request_at (table_by alike.0 rank.requests) handle)) in
+      λ handle. is_open_post p k r (post_of_send (request_at (table_by alike.0 rank.requests) handle)) in
       ap (λ (x : Part). is_before is_open x.hart (handles_waited_for rank.memory (doing rank.site x)))
       (part_named alike.0 (number_by alike.0) rank hart)
       ∙ ap (λ d. is_before is_open part.hart (handles_waited_for rank.memory d))
@@ -622,6 +482,7 @@ rest_law = record {
   each = each;
   away = away;
   stays = stays;
+  ready = ready;
   alike = λ wild a b r hart alike. same_rests wild a b r hart alike any_message;
   alike_for = λ wild a b r hart k alike. same_rests wild a b r hart alike (is_to k);
 }

@@ -5,7 +5,7 @@ use Rattle.cl_state.specs.Rank.{Rank}
 use Rattle.cl_state_laws.specs.Vain.{IsStopped, mode_of}
 use Rattle.cl_machine.specs.Cluster.{Cluster}
 use Rattle.cl_deadlock_laws.specs.Stuck.{IsStuckHart, is_among}
-use Rattle.cl_rest_laws.specs.Rests.{rests_for}
+use Rattle.cl_rest_laws.specs.Rests.{IsElseReady, rests_for}
 
 -- the hart rests until one of these ranks receives
 pub record RestsAmong (ranks : List ℕ) (c : Cluster) (r hart : ℕ) : Type 0 where
@@ -21,7 +21,8 @@ AreHeldUp ranks c =
     → hart < length rank.harts
     → IsStopped (mode_of rank hart) ⊎ (IsStuckHart ranks c r rank hart ⊎ RestsAmong ranks c r hart)
 
--- a hart of these ranks rests until one of them receives
+-- a hart of these ranks rests until one of them receives, and is held up by nothing else. If all were, they would be stuck with
+-- buffers too
 pub record SomeRests (ranks : List ℕ) (c : Cluster) : Type 0 where
   pub r : ℕ
   pub rank : Rank
@@ -30,6 +31,7 @@ pub record SomeRests (ranks : List ℕ) (c : Cluster) : Type 0 where
   pub there : slice_get c.ranks r ≡ Some rank
   pub inside : hart < length rank.harts
   pub rests_there : RestsAmong ranks c r hart
+  pub else_ready : IsElseReady c r rank hart
 
 -- and one of them rests. Other ranks may still run
 pub record NeedBuffers (ranks : List ℕ) (c : Cluster) : Type 0 where

@@ -3,14 +3,14 @@ use Rattle.std.specs.Prelude.{ℕ, ◌≡◌, ◌≢◌, ◌⊎◌, true, false,
 use Rattle.rv_image_types.specs.Image.{IsImage}
 use Rattle.rv_image_types.specs.declared.images.ImageParts.{ImageParts}
 use Rattle.mp_source_laws.specs.Alike.{Wild}
-use Rattle.cl_state.specs.Rank.{below}
+use Rattle.cl_state.specs.Rank.{Rank, below}
 use Rattle.cl_machine.specs.Cluster.{Cluster, IsStep}
 use Rattle.cl_machine.specs.declared.steps.Step.{Step}
 use Rattle.cl_deadlock_laws.specs.Stuck.{AreAsTheyWere, IsReachable}
 use Rattle.cl_order_laws.specs.Closed.{IsEnd, Plans}
 use Rattle.cl_first_laws.specs.Below.{AreAlike}
 use Rattle.cl_first_laws.specs.Laws.{Turn}
-use Rattle.cl_rest_laws.specs.Rests.{rests, rests_for}
+use Rattle.cl_rest_laws.specs.Rests.{IsElseReady, rests, rests_for}
 use Rattle.cl_rest_laws.specs.Buffering.{NeedBuffers}
 use Rattle.cl_rest_laws.specs.Ends.{IsEndWhereSendsWait}
 
@@ -25,6 +25,10 @@ pub record RestLaw : Type 0 where
   pub stays : (c new : Cluster) (r s which hart k : ℕ) → s ≢ r → s ≢ k → Turn s which c new
       → rests_for c r hart k ≡ true
       → rests_for new r hart k ≡ true
+  -- what else its call waits for stays there until it takes a turn
+  pub ready : (c new : Cluster) (r s which hart : ℕ) (rank : Rank) → s ≢ r → Turn s which c new
+      → IsElseReady c r rank hart
+      → IsElseReady new r rank hart
   -- in alike clusters the same ranks rest
   pub alike : (wild : Wild) (a b : Cluster) (r hart : ℕ) → AreAlike wild a b → rests b r hart ≡ rests a r hart
   pub alike_for : (wild : Wild) (a b : Cluster) (r hart k : ℕ) → AreAlike wild a b

@@ -1,5 +1,6 @@
 pub mod Unpaired
 pub mod UnpairedLaw
+pub mod Unreceived
 pub mod Rests
 pub mod Buffering
 pub mod Laws

@@ -1,16 +1,16 @@
 -- Where a rank may rest: behind a standard send that nobody received, and before a call that completes one. MPI lets such a
 -- send wait for its receive (MPI 4.1, 3.4), and calls a program unsafe that needs it to go on (3.5).
-use Rattle.std.specs.Prelude.{ℕ, ◌-◌, ◌==◌, ◌&&◌, ◌||◌, nat_lt, not, Bool, true, false, List, [], ◌∷◌, length, Option, Some, None}
-use Rattle.std.specs.List.{list_any, slice_get}
+use Rattle.std.specs.Prelude.{ℕ, ◌-◌, ◌≡◌, ◌==◌, ◌&&◌, ◌||◌, nat_lt, not, Bool, true, false, List, [], ◌∷◌, length, Option, Some, None}
+use Rattle.std.specs.List.{list_all, list_any, slice_get}
 use Rattle.rv_memory.specs.Access.{word_at}
 use Rattle.rv_memory.specs.Memory.{Memory}
 use Rattle.rv_hart.specs.State.{State}
 use Rattle.rv_hart.specs.declared.state.Mode.{Mode}
 use Rattle.rv_hart.specs.declared.state.Mode.TheVariants.{Running, Waiting, Ended, Trapped}
 use Rattle.rv_hart.specs.declared.state.Wait.TheVariants.{Post, Again}
-use Rattle.mp_match.specs.declared.posts.Line.{Line}
+use Rattle.mp_types.specs.declared.requests.Request.TheVariants as request
 use Rattle.mp_match.specs.declared.posts.Sent.{Sent}
-use Rattle.mp_hub.specs.Hub.{HubView}
+use Rattle.mp_hub.specs.Hub.{HubView, is_ready}
 use Rattle.mp_request.specs.declared.entries.OpenRequest.{OpenRequest}
 use Rattle.mp_request.specs.declared.entries.Progress.{Progress}
 use Rattle.mp_request.specs.declared.entries.Progress.TheVariants as progress
@@ -27,12 +27,13 @@ use Rattle.cl_calls.specs.Needs.{array_at}
 use Rattle.cl_calls.specs.Site.{member, members}
 use Rattle.cl_state.specs.declared.asking.Doing.{Doing}
 use Rattle.cl_state.specs.declared.asking.Doing.TheVariants.{Go}
-use Rattle.cl_state.specs.Asked.{doing, is_ecall, part_of}
+use Rattle.cl_state.specs.declared.asking.Ask.{Ask}
+use Rattle.cl_state.specs.Asked.{asked, doing, is_ecall, part_of}
 use Rattle.cl_state.specs.Rank.{Rank}
 use Rattle.cl_state_laws.specs.Vain.{mode_of}
 use Rattle.cl_machine.specs.Cluster.{Cluster}
 use Rattle.cl_order_laws.specs.Alike.{hub_of}
-use Rattle.cl_rest_laws.specs.Unpaired.{is_unpaired, is_unpaired_at}
+use Rattle.cl_rest_laws.specs.Unreceived.{is_unreceived, is_unreceived_at}
 
 -- ---- the send behind which a hart stands
 
@@ -82,13 +83,13 @@ stands_behind_call rank hart =
 abbrev pub spelled : Rank → ℕ → Call
 spelled rank hart = call_named (part_of rank hart).hart
 
--- the hart stands behind a SEND, and neither a receive nor a matched probe has its message, of which this holds. Messages of
--- one rank to one rank in one communicator with one tag are received in the order in which they were sent (3.5): if one of
--- them wasn't received, the last one wasn't
+-- the hart stands behind a SEND, and nobody received its message, of which this holds. Messages of one rank to one rank in one
+-- communicator with one tag are matched in the order in which they were sent (3.5): if one of them wasn't received, the last one
+-- wasn't, unless a matched probe took an earlier one. Then the hart rests for that one
 abbrev pub rests_behind : (Sent → Bool) → HubView → ℕ → Rank → ℕ → Bool
 rests_behind p hub r rank hart =
     stands_behind_call rank hart
-    && list_any (is_unpaired (λ m. is_message_of rank.site r (spelled rank hart) m && p m)) hub.board.lines
+    && list_any (is_unreceived (λ m. is_message_of rank.site r (spelled rank hart) m && p m) hub) hub.board.lines
 
 -- ---- the sends that a call is to complete
 
@@ -108,12 +109,11 @@ abbrev pub post_of_send : Option OpenRequest → Option ℕ
 post_of_send None = None
 post_of_send (Some request) = post_in request.state
 
--- neither a receive nor a matched probe has the message of this post, which is a standard send of rank r, and of which this
--- holds
-abbrev pub is_open_post : (Sent → Bool) → ℕ → List Line → Option ℕ → Bool
-is_open_post p r lines None = false
-is_open_post p r lines (Some post) =
-    is_unpaired_at (λ m. ((m.envelope.source == r) && not m.sync) && p m) lines post
+-- nobody received the message of this post, which is a standard send of rank r, and of which this holds
+abbrev pub is_open_post : (Sent → Bool) → HubView → ℕ → Option ℕ → Bool
+is_open_post p hub r None = false
+is_open_post p hub r (Some post) =
+    is_unreceived_at (λ m. ((m.envelope.source == r) && not m.sync) && p m) hub post
 
 -- the handles whose requests a WAIT or WAITALL completes, unless its arguments are refused
 abbrev pub handles_waited_for : Memory → Doing → List ℕ
@@ -129,7 +129,7 @@ handles_ahead rank hart = handles_waited_for rank.memory (doing rank.site (part_
 abbrev pub rests_before : (Sent → Bool) → HubView → ℕ → Rank → ℕ → Bool
 rests_before p hub r rank hart =
     not (says_buffered (part_of rank hart).hart)
-    && list_any (λ handle. is_open_post p r hub.board.lines (post_of_send (request_at rank.requests handle)))
+    && list_any (λ handle. is_open_post p hub r (post_of_send (request_at rank.requests handle)))
     (handles_ahead rank hart)
 
 -- ---- where a hart rests
@@ -149,3 +149,15 @@ rests c r hart = rests_if (λ m. true) (hub_of c.journal) r (slice_get c.ranks r
 -- until rank k receives what was sent to it
 abbrev pub rests_for : Cluster → ℕ → ℕ → ℕ → Bool
 rests_for c r hart k = rests_if (λ m. m.dest == k) (hub_of c.journal) r (slice_get c.ranks r) hart
+
+-- ---- what else its call waits for
+
+-- if the call that it is about to make is a WAITALL, each other request of it that asks the hub for something can complete
+abbrev pub IsElseReady : Cluster → ℕ → Rank → ℕ → Type 0
+IsElseReady c r rank hart =
+    (posts : List ℕ) → asked rank hart ≡ Ask.Hub (request.All posts)
+    → list_all (λ number. is_ready (hub_of c.journal) r number) posts ≡ true
+
+-- a send's receipt alone holds the hart up: if its send doesn't wait, it goes on in its next turn
+abbrev pub MayGoOn : Cluster → ℕ → Rank → ℕ → Type 0
+MayGoOn c r rank hart = (rests c r hart ≡ true) × IsElseReady c r rank hart

@@ -46,10 +46,6 @@ recv rank source = calls_twice rank (24 ∷ 4 ∷ source ∷ 7 ∷ 0 ∷ 0 ∷ [
 abbrev pub irecv : ℕ → ℕ → Rank
 irecv rank source = calls_twice rank (24 ∷ 4 ∷ source ∷ 7 ∷ 0 ∷ []) 21
 
--- IMPROBE of any message with tag 7
-abbrev pub improbe : ℕ → ℕ → Rank
-improbe rank source = calls_twice rank (source ∷ 7 ∷ 0 ∷ 0 ∷ []) 26
-
 -- ---- where steps lead
 
 -- these steps lead to a cluster of which this holds
@@ -115,13 +111,7 @@ abbrev pub Received : Type 0
 Received =
     GetToNoRest (both (send 0 1) (recv 1 0)) (sends ++ step 1 10 (Kind.Hub (reply.Got sent_message)) ∷ [])
 
--- or a matched probe has the message
-abbrev pub Claimed : Type 0
-Claimed =
-    GetToNoRest (both (send 0 1) (improbe 1 0))
-    (sends ++ step 1 10 (Kind.Hub (reply.Held 2 sent_message.envelope)) ∷ [])
-
--- or where the receive was posted before the send: by a RECV, which waits, or by an IRECV
+-- nor where the receive was posted before the send: by a RECV, which waits, or by an IRECV
 abbrev pub receive_first : List Step
 receive_first = step 1 9 (Kind.Hub (reply.Posted 1 false)) ∷ step 0 10 (Kind.Hub (reply.Posted 2 true)) ∷ []
 
@@ -130,6 +120,38 @@ ReceiveWaits = GetToNoRest (both (send 0 1) (recv 1 0)) receive_first
 
 abbrev pub ReceivePosted : Type 0
 ReceivePosted = GetToNoRest (both (send 0 1) (irecv 1 0)) receive_first
+
+-- ---- messages that a matched probe has
+
+-- 24 bytes of text: nothing, ECALL, the message from a1 to a2, 24 in a0, the number of MRECV in a7, and ECALL again. Then 40 bytes
+-- of data
+abbrev pub probe_and_receive : Memory
+probe_and_receive = record {
+  bytes =
+      0 ∷ 0 ∷ 0 ∷ 0 ∷ 0x73 ∷ 0 ∷ 0 ∷ 0 ∷ 0x13 ∷ 0x86 ∷ 0x05 ∷ 0 ∷ 0x13 ∷ 0x05 ∷ 0x80 ∷ 0x01 ∷ 0x93 ∷ 0x08 ∷ 0xd0 ∷ 0x01 ∷ 0x73
+      ∷ 0 ∷ 0 ∷ 0 ∷ replicate 40 9;
+  text = 24;
+  pages = one_page;
+}
+
+-- MPROBE of any message with tag 7, and then its MRECV to 24. The message has number 2, which is left in a1: so the MRECV is of 2
+-- bytes
+abbrev pub mprobe : ℕ → ℕ → Rank
+mprobe rank source = record (at_call rank (source ∷ 7 ∷ 0 ∷ 0 ∷ []) 27) { memory = probe_and_receive }
+
+abbrev pub claims : List Step
+claims = sends ++ step 1 10 (Kind.Hub (reply.Held 2 sent_message.envelope)) ∷ []
+
+-- rank 0 rests while a matched probe alone has its message
+abbrev pub Claimed : Type 0
+Claimed = GetToRest (both (send 0 1) (mprobe 1 0)) claims
+
+-- it doesn't once MRECV received it
+abbrev pub ClaimReceived : Type 0
+ClaimReceived =
+    GetToNoRest (both (send 0 1) (mprobe 1 0))
+    (claims ++ step 1 11 Kind.Plain ∷ step 1 12 Kind.Plain ∷ step 1 13 Kind.Plain
+    ∷ step 1 14 (Kind.Hub (reply.Got sent_message)) ∷ [])
 
 -- ---- sends behind which no rank rests
 
@@ -231,3 +253,52 @@ OneOfTwo =
 abbrev pub SyncAtWait : Type 0
 SyncAtWait =
     GetToNoRest (both (issend 0 1) (recv 1 0)) (step 0 9 (Kind.Hub (reply.Posted 1 false)) ∷ comes_to_wait 0 10)
+
+-- ---- a WAITALL of an ISEND and of an IRECV
+
+-- 40 bytes of text: nothing, ECALL, 57 in a0, the number of IRECV in a7, ECALL, the address of the array in a0, no statuses in a2, the
+-- number of WAITALL in a7, ECALL, and nothing. Then the array, of the handles 1 and 2, at 40, and 8 bytes that begin with "hi\n".
+-- What a call tells in a1 is left there: the handle 1 is the capacity of the IRECV, and the handle 2 the length of the array
+abbrev pub isend_irecv_and_waitall : Memory
+isend_irecv_and_waitall = record {
+  bytes =
+      0 ∷ 0 ∷ 0 ∷ 0 ∷ 0x73 ∷ 0 ∷ 0 ∷ 0 ∷ 0x13 ∷ 0x05 ∷ 0x90 ∷ 0x03 ∷ 0x93 ∷ 0x08 ∷ 0x50 ∷ 0x01 ∷ 0x73 ∷ 0 ∷ 0 ∷ 0 ∷ 0x13
+      ∷ 0x05 ∷ 0x80 ∷ 0x02 ∷ 0x13 ∷ 0x06 ∷ 0 ∷ 0 ∷ 0x93 ∷ 0x08 ∷ 0x30 ∷ 0x02 ∷ 0x73 ∷ 0 ∷ 0 ∷ 0 ∷ 0 ∷ 0 ∷ 0 ∷ 0
+      ∷ handle 1 ++ handle 2 ++ 104 ∷ 105 ∷ 10 ∷ replicate 5 9;
+  text = 40;
+  pages = one_page;
+}
+
+-- ISEND of the 2 bytes at 57 with tag 7, and then an IRECV of 1 byte with tag 7 from the same rank
+abbrev pub isend_irecv : ℕ → ℕ → Rank
+isend_irecv rank other = record (at_call rank (57 ∷ 2 ∷ other ∷ 7 ∷ 0 ∷ []) 19) { memory = isend_irecv_and_waitall }
+
+-- rank 0 comes to its WAITALL, if the IRECV finds no message
+abbrev pub comes_to_waitall : List Step
+comes_to_waitall =
+    sends ++ step 0 10 Kind.Plain ∷ step 0 11 Kind.Plain ∷ step 0 12 (Kind.Hub (reply.Posted 2 false))
+    ∷ step 0 13 Kind.Plain ∷ step 0 14 Kind.Plain ∷ step 0 15 Kind.Plain ∷ []
+
+-- rank 0 waits there for its send to rank 1, and for a message from rank 1. If that has ended, they need no buffers: they are
+-- stuck with buffers too
+abbrev pub StuckAnyway : Type 0
+StuckAnyway = GetToNeedNoBuffers (0 ∷ 1 ∷ []) (both (isend_irecv 0 1) (ended (recv 1 0))) comes_to_waitall
+
+-- 16 bytes of text: nothing, ECALL, the number of EXIT in a7, and ECALL again. Then 48 bytes of data that begin with "hi\n"
+abbrev pub call_and_exit : Memory
+call_and_exit = record {
+  bytes =
+      0 ∷ 0 ∷ 0 ∷ 0 ∷ 0x73 ∷ 0 ∷ 0 ∷ 0 ∷ 0x93 ∷ 0x08 ∷ 0 ∷ 0 ∷ 0x73 ∷ 0 ∷ 0 ∷ 0 ∷ 104 ∷ 105 ∷ 10 ∷ replicate 45 9;
+  text = 16;
+  pages = one_page;
+}
+
+-- SEND of the 2 bytes at 17 with tag 7, and then EXIT
+abbrev pub send_and_exit : ℕ → ℕ → Rank
+send_and_exit rank dest = record (at_call rank (17 ∷ 2 ∷ dest ∷ 7 ∷ 0 ∷ []) 16) { memory = call_and_exit }
+
+-- if it sent that message before it ended, only the send is left to wait for, and they need buffers
+abbrev pub OnlySendLeft : Type 0
+OnlySendLeft =
+    GetToNeedBuffers (0 ∷ 1 ∷ []) (both (isend_irecv 0 1) (send_and_exit 1 0))
+    (comes_to_waitall ++ step 1 13 (Kind.Hub (reply.Posted 3 true)) ∷ step 1 14 Kind.Plain ∷ step 1 15 Kind.Local ∷ [])

@@ -1,8 +1,9 @@
 //! Worked rows: ranks that need buffers, ranks that don't, and sends for which no rank rests.
 
-ghost use Rattle.cl_rest_laws.specs.Worked.{BothWait, Claimed, IsRefused, OneAlone, OneGoesOn, OneOfTwo, ReceivePosted, ReceiveWaits};
-ghost use Rattle.cl_rest_laws.specs.Worked.{Received, ReceivedAtWait, SaysBuffered, SaysBufferedAtWait, SaysOther, SendFirst};
-ghost use Rattle.cl_rest_laws.specs.Worked.{SyncAtWait, ToEnded, ToItself, Unreceived, UnreceivedAtWait, WaitsInSsend};
+ghost use Rattle.cl_rest_laws.specs.Worked.{BothWait, ClaimReceived, Claimed, IsRefused, OneAlone, OneGoesOn, OneOfTwo, OnlySendLeft};
+ghost use Rattle.cl_rest_laws.specs.Worked.{ReceivePosted, ReceiveWaits, Received, ReceivedAtWait, SaysBuffered, SaysBufferedAtWait, SaysOther};
+ghost use Rattle.cl_rest_laws.specs.Worked.{SendFirst, StuckAnyway, SyncAtWait, ToEnded, ToItself, Unreceived, UnreceivedAtWait};
+ghost use Rattle.cl_rest_laws.specs.Worked.{WaitsInSsend};
 
 /// Two ranks that each send to the other first need buffers.
 pub fn each_sends_first()
@@ -40,9 +41,14 @@ pub fn message_was_received()
     ensures { Received }
 {}
 
-/// It doesn't rest once a matched probe has its message.
+/// A rank rests while a matched probe alone has its message.
 pub fn message_was_claimed()
     ensures { Claimed }
+{}
+
+/// It doesn't rest once the message that was claimed was received.
+pub fn claimed_message_was_received()
+    ensures { ClaimReceived }
 {}
 
 /// A rank doesn't rest behind a send for which a receive waits.
@@ -103,4 +109,14 @@ pub fn waits_for_one_of_two()
 /// A rank that waits for a synchronous ISSEND doesn't rest.
 pub fn waits_for_synchronous_send()
     ensures { SyncAtWait }
+{}
+
+/// Ranks don't need buffers that wait for a message that never comes, although one also waits for its own send.
+pub fn stuck_with_buffers_too()
+    ensures { StuckAnyway }
+{}
+
+/// They do if the message came, so that only the send is left to wait for.
+pub fn only_send_is_left()
+    ensures { OnlySendLeft }
 {}

@@ -1,5 +1,5 @@
 -- A hart that rests does so for one message: until the rank receives to which that was sent.
-use Rattle.std.specs.Prelude.{ℕ, zero, suc, ◌≡◌, ◌==◌, ◌&&◌, ◌||◌, not, Bool, true, false, List, [], ◌∷◌, Option, Some, None}
+use Rattle.std.specs.Prelude.{ℕ, ◌≡◌, ◌==◌, ◌&&◌, ◌||◌, not, Bool, true, false, List, [], ◌∷◌, Option, Some, None}
 use Rattle.std.specs.List.{list_any, slice_get}
 use Rattle.std.proofs.Common.{inl, inr, refl, sym, subst, ◌∙◌}
 use Rattle.std.proofs.lemmas.Bool.{and_from, and_parts, eq-eqb, eqb-true, or_cases, or_left, or_right}
@@ -7,7 +7,7 @@ use Rattle.mp_match.specs.declared.posts.Line.{Line}
 use Rattle.mp_match.specs.declared.posts.Post.{Post}
 use Rattle.mp_match.specs.declared.posts.Post.TheVariants.{Send, Receive, Claim}
 use Rattle.mp_match.specs.declared.posts.Sent.{Sent}
-use Rattle.mp_match.specs.Free.{free_in}
+use Rattle.mp_match.specs.Board.{line_of}
 use Rattle.mp_hub.specs.Hub.{HubView}
 use Rattle.mp_request.specs.Table.{request_at}
 use Rattle.cl_state.specs.Rank.{Rank}
@@ -17,7 +17,8 @@ use Rattle.cl_order_laws.specs.Alike.{hub_of}
 use Rattle.cl_rest_laws.specs.Buffering.{RestsAmong}
 use Rattle.cl_rest_laws.specs.Rests.{handles_ahead, is_message_of, is_open_post, post_of_send, rests_before, rests_behind}
 use Rattle.cl_rest_laws.specs.Rests.{rests_if, says_buffered, spelled, stands_behind_call}
-use Rattle.cl_rest_laws.specs.Unpaired.{is_send, is_unpaired}
+use Rattle.cl_rest_laws.specs.Unpaired.{is_send}
+use Rattle.cl_rest_laws.specs.Unreceived.{is_left, is_unreceived, is_unreceived_in}
 use Rattle.cl_state.specs.Asked.{part_of}
 use Rattle.cl_rests.specs.Held.{IsRestBesideIf}
 use Rattle.cl_rests.specs.Sought.{is_to}
@@ -36,6 +37,12 @@ never p is = absurd (cc)
 if_too : (b : Bool) (holds : (Sent → Bool) → Bool) → IsByOne holds → IsByOne (λ p. b && holds p)
 if_too false holds one p is = absurd (cc)
 if_too true holds one p is = one p is
+
+and_too : (holds : (Sent → Bool) → Bool) (b : Bool) → IsByOne holds → IsByOne (λ p. holds p && b)
+and_too holds b one p is =
+    let two = and_parts (holds p) b is in
+    let m = one p two.0 in
+    (m.0, m.1, λ q its. and_from (holds q) b (m.2 q its) two.1)
 
 either : (first second : (Sent → Bool) → Bool) → IsByOne first → IsByOne second → IsByOne (λ p. first p || second p)
 either first second one other p is = elim (or_cases (first p) (second p) is) [
@@ -59,25 +66,30 @@ one_send also (Some (Send s)) =
 one_send also (Some (Receive a)) = never
 one_send also (Some (Claim a)) = never
 
-module _ (r : ℕ) (lines : List Line) where
-  one_post : (o : Option ℕ) → IsByOne (λ p. is_open_post p r lines o)
-  one_post None = never
-  one_post (Some zero) = never
-  one_post (Some (suc place)) =
-      one_send (λ m. (m.envelope.source == r) && not m.sync) (free_in (slice_get lines place))
+module _ (hub : HubView) (also : Sent → Bool) where
+  one_line : (line : Line) → IsByOne (λ p. is_unreceived (λ m. also m && p m) hub line)
+  one_line line = and_too (λ p. is_send (λ m. also m && p m) (Some line.post)) (is_left hub line) (one_send also (Some line.post))
+
+  one_in : (o : Option Line) → IsByOne (λ p. is_unreceived_in (λ m. also m && p m) hub o)
+  one_in None = never
+  one_in (Some line) = one_line line
+
+one_post : (hub : HubView) (r : ℕ) (o : Option ℕ) → IsByOne (λ p. is_open_post p hub r o)
+one_post hub r None = never
+one_post hub r (Some number) = one_in hub (λ m. (m.envelope.source == r) && not m.sync) (line_of hub.board number)
 
 module _ (hub : HubView) (r : ℕ) (rank : Rank) (hart : ℕ) where
   one_behind : IsByOne (λ p. rests_behind p hub r rank hart)
   one_behind =
       if_too (stands_behind_call rank hart) _
-      (any_of (λ p. is_unpaired (λ m. is_message_of rank.site r (spelled rank hart) m && p m))
-      (λ line. one_send (is_message_of rank.site r (spelled rank hart)) (free_in (Some line))) hub.board.lines)
+      (any_of (λ p. is_unreceived (λ m. is_message_of rank.site r (spelled rank hart) m && p m) hub)
+      (one_line hub (is_message_of rank.site r (spelled rank hart))) hub.board.lines)
 
   one_before : IsByOne (λ p. rests_before p hub r rank hart)
   one_before =
       if_too (not (says_buffered (part_of rank hart).hart)) _
-      (any_of (λ p handle. is_open_post p r hub.board.lines (post_of_send (request_at rank.requests handle)))
-      (λ handle. one_post r hub.board.lines (post_of_send (request_at rank.requests handle))) (handles_ahead rank hart))
+      (any_of (λ p handle. is_open_post p hub r (post_of_send (request_at rank.requests handle)))
+      (λ handle. one_post hub r (post_of_send (request_at rank.requests handle))) (handles_ahead rank hart))
 
 one_rest : (hub : HubView) (r : ℕ) (o : Option Rank) (hart : ℕ) → IsByOne (λ p. rests_if p hub r o hart)
 one_rest hub r None hart = never

@@ -10,19 +10,20 @@ use Rattle.mp_match.specs.declared.posts.Line.{Line}
 use Rattle.mp_match.specs.declared.posts.Post.{Post}
 use Rattle.mp_match.specs.declared.posts.Post.TheVariants.{Send, Receive, Claim}
 use Rattle.mp_match.specs.declared.posts.Sent.{Sent}
-use Rattle.mp_match.specs.Pairs.{is_free}
 use Rattle.mp_hub.specs.Hub.{HubView}
 use Rattle.cl_calls.specs.declared.calls.Call.{Call}
 use Rattle.cl_calls.specs.declared.calls.Call.TheVariants as call
 use Rattle.cl_calls.specs.declared.calls.Sending.{Sending}
 use Rattle.cl_calls.specs.declared.sites.Site.{Site}
 use Rattle.cl_state.specs.declared.state.RankState.{RankState}
-use Rattle.cl_state.specs.Asked.{doing}
+use Rattle.cl_state.specs.declared.asking.Ask.{Ask}
+use Rattle.cl_state.specs.Asked.{asked, doing}
 use Rattle.cl_state.specs.Rank.{Rank}
 use Rattle.cl_state.specs.Room.{rank_of}
 use Rattle.cl_rest_laws.specs.Rests.{handles_ahead, is_message_of, is_sent_with}
 use Rattle.cl_rest_laws.specs.Rests.{rests_behind, rests_if, rests_in, spelled, stands_behind_call}
-use Rattle.cl_rest_laws.specs.Unpaired.{is_send, is_unpaired}
+use Rattle.cl_rest_laws.specs.Unpaired.{is_send}
+use Rattle.cl_rest_laws.specs.Unreceived.{is_left, is_unreceived}
 use Rattle.cl_order_laws.specs.Alike.{hub_of}
 use Rattle.cl_order_laws.specs.Closed.{Node}
 use Rattle.cl_moves.specs.Standing.{StandsAt}
@@ -33,40 +34,37 @@ use Rattle.cl_rests.specs.Sought.{is_sought}
 
 -- ---- lines of which none is such a message
 
-module _ (p : Sent → Bool) (never : (m : Sent) → p m ≡ false) where
-  not_one : (o : Option ℕ) (post : Post) → is_send p (cond (is_free o) (Some post) None) ≡ false
-  not_one None (Send s) = never s
-  not_one None (Receive a) = refl
-  not_one None (Claim a) = refl
-  not_one (Some k) post = refl
+module _ (p : Sent → Bool) (never : (m : Sent) → p m ≡ false) (hub : HubView) where
+  not_one : (post : Post) (b : Bool) → (is_send p (Some post) && b) ≡ false
+  not_one (Send s) b = ap (λ x. x && b) (never s)
+  not_one (Receive a) b = refl
+  not_one (Claim a) b = refl
 
-  none_unpaired : (lines : List Line) → list_any (is_unpaired p) lines ≡ false
-  none_unpaired [] = refl
-  none_unpaired (l ∷ ls) =
-      ap (λ b. b || list_any (is_unpaired p) ls) (not_one l.partner l.post) ∙ none_unpaired ls
+  none_unreceived : (lines : List Line) → list_any (is_unreceived p hub) lines ≡ false
+  none_unreceived [] = refl
+  none_unreceived (l ∷ ls) =
+      ap (λ b. b || list_any (is_unreceived p hub) ls) (not_one l.post (is_left hub l)) ∙ none_unreceived ls
 
 -- ---- behind a SEND
 
--- a message of it, of which this holds, has no partner
-abbrev pub unreceived : (Sent → Bool) → List Line → ℕ → Site → Option Sending → Bool
-unreceived p lines r site None = false
-unreceived p lines r site (Some s) = list_any (is_unpaired (λ m. is_sent_with site r s m && p m)) lines
+-- nobody received a message of it, of which this holds
+abbrev pub unreceived : (Sent → Bool) → HubView → ℕ → Site → Option Sending → Bool
+unreceived p hub r site None = false
+unreceived p hub r site (Some s) = list_any (is_unreceived (λ m. is_sent_with site r s m && p m) hub) hub.board.lines
 
-module _ (p : Sent → Bool) (lines : List Line) (r : ℕ) (site : Site) where
+module _ (p : Sent → Bool) (hub : HubView) (r : ℕ) (site : Site) where
   by_call : (b : Bool) (x : Call)
-      → (b && list_any (is_unpaired (λ m. is_message_of site r x m && p m)) lines)
-      ≡ unreceived p lines r site (cond b (sent_by x) None)
+      → (b && list_any (is_unreceived (λ m. is_message_of site r x m && p m) hub) hub.board.lines)
+      ≡ unreceived p hub r site (cond b (sent_by x) None)
   by_call false x = refl
   by_call true (call.Send s) = refl
-  by_call true x = none_unpaired (λ m. is_message_of site r x m && p m) (λ m. refl) lines
+  by_call true x = none_unreceived (λ m. is_message_of site r x m && p m) (λ m. refl) hub hub.board.lines
 
-pub behind_is : (s : Sought) (rank : Rank) (hub : HubView) → hub.board.lines ≡ s.lines.now
-    → rests_behind (is_sought s) hub s.from rank 0
-    ≡ unreceived (is_sought s) s.lines.now s.from rank.site (sent_behind rank)
-behind_is s rank hub same =
-    ap (λ ls. stands_behind_call rank 0
-    && list_any (is_unpaired (λ m. is_message_of rank.site s.from (spelled rank 0) m && is_sought s m)) ls) same
-    ∙ by_call (is_sought s) s.lines.now s.from rank.site (stands_behind_call rank 0) (spelled rank 0)
+pub behind_is : (s : Sought) (rank : Rank)
+    → rests_behind (is_sought s) s.hub.now s.from rank 0
+    ≡ unreceived (is_sought s) s.hub.now s.from rank.site (sent_behind rank)
+behind_is s rank =
+    by_call (is_sought s) s.hub.now s.from rank.site (stands_behind_call rank 0) (spelled rank 0)
 
 -- ---- a rank without harts
 
@@ -85,6 +83,10 @@ module _ (rank : Rank) (none : length rank.harts ≡ 0) where
   none_rests p hub r =
       subst (λ hs. rests_in p hub r (record rank { harts = hs }) 0 ≡ false) (sym (no_items rank.harts none)) refl
 
+  pub none_asked : asked rank 0 ≡ Ask.Idle
+  unfolding asked doing
+  none_asked = subst (λ hs. asked (record rank { harts = hs }) 0 ≡ Ask.Idle) (sym (no_items rank.harts none)) refl
+
 -- ---- of a rank of a standing
 
 -- what was read at its place
@@ -94,7 +96,7 @@ own_read xs count place rank own many inside read is =
     subst (λ r. slice_get xs r ≡ Some own) is (slice_get_read xs count place own many inside read)
 
 module _ (image : ImageParts) (standing : Standing) (here : Node) (stands : StandsAt image standing here) (r : ℕ) where
-  own_at : (own : RankState) → slice_get standing.cluster.ranks.items r ≡ Some own
+  pub own_at : (own : RankState) → slice_get standing.cluster.ranks.items r ≡ Some own
       → slice_get here.cluster.ranks r ≡ Some (rank_of own)
   own_at own at =
       ap (λ (rs : List Rank). slice_get rs r) stands.stands.ranks_are

@@ -1,21 +1,19 @@
--- Whether a rank rests for the messages that are looked for.
+-- What a rank's first hart stands behind, and whether it rests.
 use Rattle.std.specs.Prelude.{ℕ, ◌≡◌, cond, Bool, true, false, List, Option, Some, None}
 use Rattle.std.specs.List.{slice_get}
 use Rattle.rv_image_types.specs.declared.images.ImageParts.{ImageParts}
-use Rattle.mp_hub.specs.Hub.{HubView}
 use Rattle.cl_calls.specs.declared.calls.Call.{Call}
 use Rattle.cl_calls.specs.declared.calls.Call.TheVariants as call
 use Rattle.cl_calls.specs.declared.calls.Sending.{Sending}
 use Rattle.cl_state.specs.declared.asking.Doing.{Doing}
 use Rattle.cl_state.specs.declared.asking.Doing.TheVariants.{Go}
 use Rattle.cl_state.specs.Rank.{Rank}
-use Rattle.cl_rest_laws.specs.Rests.{rests_before, rests_behind, rests_if, rests_in, spelled, stands_behind_call}
+use Rattle.cl_rest_laws.specs.Rests.{rests_if, spelled, stands_behind_call}
 use Rattle.cl_order_laws.specs.Alike.{hub_of}
 use Rattle.cl_order_laws.specs.Closed.{Node}
 use Rattle.cl_moves.specs.Standing.{StandsAt}
 use Rattle.cl_moves.specs.declared.standing.Standing.{Standing}
-use Rattle.cl_rests.specs.declared.sought.Sought.{Sought}
-use Rattle.cl_rests.specs.Sought.{is_sought, is_to}
+use Rattle.cl_rests.specs.Sought.{is_to}
 
 -- what the call sends, if it is a SEND
 abbrev pub sent_by : Call → Option Sending
@@ -31,23 +29,6 @@ abbrev pub is_wait : Doing → Bool
 is_wait (Go (call.Wait c)) = true
 is_wait (Go (call.Waitall s)) = true
 is_wait _ = false
-
--- ---- by whichever hub has the lines
-
--- the rank's first hart rests behind a SEND, or doesn't
-abbrev pub TellsBehind : Sought → Rank → Bool → Type 0
-TellsBehind s rank found =
-    (hub : HubView) → hub.board.lines ≡ s.lines.now → found ≡ rests_behind (is_sought s) hub s.from rank 0
-
--- before a WAIT or WAITALL
-abbrev pub TellsBefore : Sought → Rank → Bool → Type 0
-TellsBefore s rank found =
-    (hub : HubView) → hub.board.lines ≡ s.lines.now → found ≡ rests_before (is_sought s) hub s.from rank 0
-
--- or either
-abbrev pub TellsIn : Sought → Rank → Bool → Type 0
-TellsIn s rank found =
-    (hub : HubView) → hub.board.lines ≡ s.lines.now → found ≡ rests_in (is_sought s) hub s.from rank 0
 
 -- ---- of a standing
 

@@ -25,7 +25,7 @@ is_sought_by s site sending m = is_sent_with site s.from sending m && is_sought 
 abbrev pub is_sought_standard : Sought → Sent → Bool
 is_sought_standard s m = ((m.envelope.source == s.from) && not m.sync) && is_sought s m
 
--- the handle names a standard send of such a message, and neither a receive nor a matched probe has it
+-- the handle names a standard send of such a message, which nobody received
 abbrev pub is_sought_handle : Sought → Table → ℕ → Bool
 is_sought_handle s requests handle =
-    is_open_post (is_sought s) s.from s.lines.now (post_of_send (request_at requests handle))
+    is_open_post (is_sought s) s.hub.now s.from (post_of_send (request_at requests handle))

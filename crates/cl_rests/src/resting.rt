@@ -6,10 +6,11 @@ ghost use Rattle.cl_state.specs.Room.{rank_of};
 ghost use Rattle.cl_state.specs.TurnRoom.{IsNext};
 ghost use Rattle.cl_rest_laws.specs.Rests.{handles_waited_for as handles_in, is_behind_call as is_behind_of};
 ghost use Rattle.cl_rest_laws.specs.Rests.{is_free_to_go as is_free_of, may_wait_for_receipt as may_wait_of};
-ghost use Rattle.cl_rest_laws.specs.Rests.{says_buffered as says_buffered_of};
+ghost use Rattle.cl_rest_laws.specs.Rests.{rests_before as rests_before_of, rests_behind as rests_behind_of};
+ghost use Rattle.cl_rest_laws.specs.Rests.{rests_in as rests_in_of, says_buffered as says_buffered_of};
 ghost use Rattle.cl_rests.specs.Held.{TellsRestsBeside};
-ghost use Rattle.cl_rests.specs.Found.{TellsBefore, TellsBehind, TellsIn, TellsRestsTo, sent_behind};
-ghost use Rattle.cl_rests.specs.Sought.{is_sought_handle};
+ghost use Rattle.cl_rests.specs.Found.{TellsRestsTo, sent_behind};
+ghost use Rattle.cl_rests.specs.Sought.{is_sought, is_sought_handle};
 ghost use Rattle.cl_rests.specs.Telling.{IsRestAt};
 
 use crate::handles::{handles_waited_for, is_wait, post_of_send};
@@ -74,7 +75,7 @@ fn send_behind(own: &RankState) -> Option<Sending>
 
 /// Whether the rank's first hart rests behind a SEND of such a message.
 fn rests_behind(sought: &Sought<'_>, own: &RankState) -> bool
-    ensures { TellsBehind sought.now (rank_of own.now) result }
+    ensures { result ≡ rests_behind_of (is_sought sought.now) sought.now.hub.now sought.now.from (rank_of own.now) 0 }
 {
     match send_behind(own) {
         None => false,
@@ -115,14 +116,14 @@ fn waits_for(sought: &Sought<'_>, own: &RankState, doing: &Doing) -> bool
 /// Whether the rank's first hart rests before a WAIT or WAITALL of such a message.
 fn rests_before(sought: &Sought<'_>, own: &RankState) -> bool
     requires { 0 < vec_len own.now.harts }
-    ensures { TellsBefore sought.now (rank_of own.now) result }
+    ensures { result ≡ rests_before_of (is_sought sought.now) sought.now.hub.now sought.now.from (rank_of own.now) 0 }
 {
     !says_buffered(&own.harts[0]) && waits_for(sought, own, &own.next(0))
 }
 
 /// Whether the rank's first hart rests for such a message.
 fn rests_in(sought: &Sought<'_>, own: &RankState) -> bool
-    ensures { TellsIn sought.now (rank_of own.now) result }
+    ensures { result ≡ rests_in_of (is_sought sought.now) sought.now.hub.now sought.now.from (rank_of own.now) 0 }
 {
     if own.harts.len() == 0 {
         return false;
@@ -139,7 +140,7 @@ fn rests_to(standing: &Standing, rank: u8, to: Option<&[u8]>) -> bool
         return false;
     }
     let sought = Sought {
-        lines: standing.whole.board().lines(),
+        hub: &standing.whole,
         from: rank,
         to,
     };
@@ -153,8 +154,8 @@ pub(crate) fn rests_beside(among: &[u8], standing: &Standing, rank: u8) -> bool
     rests_to(standing, rank, Some(among))
 }
 
-/// Whether the rank waits for the receive of a standard send, where such sends wait: neither a receive nor a matched probe has
-/// the message, and the rank's first hart is right behind the SEND, or before a WAIT or WAITALL of it.
+/// Whether the rank waits for the receive of a standard send, where such sends wait: nobody received the message, and the rank's
+/// first hart is right behind the SEND, or before a WAIT or WAITALL of it. A matched probe doesn't receive it.
 pub fn rests(standing: &Standing, rank: u8) -> bool
     ensures { IsRestAt standing.now rank result }
 {

@@ -1,20 +1,24 @@
 //! Messages that are looked for.
 
-ghost use Rattle.std.specs.Prelude.{◌≡◌};
+ghost use Rattle.std.specs.Prelude.{◌≡◌, Some};
 ghost use Rattle.std.specs.List.{list_any};
+ghost use Rattle.mp_hub.specs.Claimed.{waits_for_receive as waits_for_receive_of};
+ghost use Rattle.mp_match.specs.Board.{claim_at};
+ghost use Rattle.mp_probe.specs.Claims.{is_waiting as is_waiting_of};
 ghost use Rattle.cl_deadlock_laws.specs.Stuck.{is_among as is_among_of};
 ghost use Rattle.cl_rest_laws.specs.Rests.{is_open_post as is_open_post_of, is_sent_with};
-ghost use Rattle.cl_rest_laws.specs.Unpaired.{is_unpaired};
+ghost use Rattle.cl_rest_laws.specs.Unreceived.{is_left as is_left_of, is_unreceived};
 ghost use Rattle.cl_rests.specs.Sought.{is_sought, is_sought_by, is_sought_standard};
 
 use cl_calls::{Sending, Site};
+use mp_alike::WholeHub;
 use mp_match::{Line, Post, Sent};
+use mp_probe::Waiting;
 
-/// What is looked for on the lines of a board: messages from a rank to one of these, or to any if none are given, that neither a
-/// receive nor a matched probe has.
+/// What is looked for in a hub: messages from a rank to one of these, or to any if none are given, that nobody received.
 #[derive(Clone, Copy, Drop)]
 pub(crate) struct Sought<'a> {
-    pub lines: &'a [Line],
+    pub hub: &'a WholeHub,
     pub from: u8,
     pub to: Option<&'a [u8]>,
 }
@@ -41,6 +45,36 @@ fn is_sent(site: &Site, rank: u8, sending: &Sending, sent: &Sent) -> bool
         && u64::from(sent.envelope.comm) == sending.comm
 }
 
+/// Whether the claimed message with this handle waits for its receive.
+fn is_waiting(claims: &[Waiting], message: u64) -> bool
+    ensures { result ≡ is_waiting_of claims.now message }
+{
+    claims.iter().any(|waiting| waiting.message == message)
+}
+
+/// Whether the post at this place is a matched probe whose message waits for its receive.
+fn waits_for_receive(hub: &WholeHub, place: u64) -> bool
+    ensures { result ≡ waits_for_receive_of hub.now (claim_at hub.now.board (Some place)) }
+{
+    let Some(line) = hub.board().lines().get(place as usize) else {
+        return false;
+    };
+    match line.post {
+        Post::Claim(_) => is_waiting(hub.claims(), place + 1),
+        _ => false,
+    }
+}
+
+/// Whether nobody received the message of the send on this line.
+fn is_left(hub: &WholeHub, line: &Line) -> bool
+    ensures { result ≡ is_left_of hub.now line.now }
+{
+    match line.partner {
+        None => true,
+        Some(place) => waits_for_receive(hub, place),
+    }
+}
+
 impl Sought<'_> {
     /// Whether the message is one to these ranks.
     fn is_to(&self, sent: &Sent) -> bool
@@ -54,32 +88,40 @@ impl Sought<'_> {
 
     /// Whether the line is a message that is looked for, and sent by a SEND with these arguments.
     fn finds_sent(&self, site: &Site, sending: &Sending, line: &Line) -> bool
-        ensures { result ≡ is_unpaired (is_sought_by self.now site.now sending.now) line.now }
+        ensures { result ≡ is_unreceived (is_sought_by self.now site.now sending.now) self.now.hub.now line.now }
     {
-        match (line.post, line.partner) {
-            (Post::Send(sent), None) => {
-                is_sent(site, self.from, sending, &sent) && self.is_to(&sent)
+        match line.post {
+            Post::Send(sent) => {
+                is_sent(site, self.from, sending, &sent)
+                    && self.is_to(&sent)
+                    && is_left(self.hub, line)
             }
             _ => false,
         }
     }
 
-    /// Whether one of the lines is.
+    /// Whether one of the hub's posts is.
     pub(crate) fn finds_any_sent(&self, site: &Site, sending: &Sending) -> bool
-        ensures { result ≡ list_any (is_unpaired (is_sought_by self.now site.now sending.now)) self.now.lines.now }
+        ensures { result ≡ list_any (is_unreceived (is_sought_by self.now site.now sending.now) self.now.hub.now)
+            self.now.hub.now.board.lines }
     {
-        self.lines
+        self.hub
+            .board()
+            .lines()
             .iter()
             .any(|line| self.finds_sent(site, sending, line))
     }
 
     /// Whether the line is a message that is looked for, and sent in standard mode.
     fn finds_standard(&self, line: &Line) -> bool
-        ensures { result ≡ is_unpaired (is_sought_standard self.now) line.now }
+        ensures { result ≡ is_unreceived (is_sought_standard self.now) self.now.hub.now line.now }
     {
-        match (line.post, line.partner) {
-            (Post::Send(sent), None) => {
-                sent.envelope.source == self.from && !sent.sync && self.is_to(&sent)
+        match line.post {
+            Post::Send(sent) => {
+                sent.envelope.source == self.from
+                    && !sent.sync
+                    && self.is_to(&sent)
+                    && is_left(self.hub, line)
             }
             _ => false,
         }
@@ -87,13 +129,12 @@ impl Sought<'_> {
 
     /// Whether the line of this post is, if there is a post.
     pub(crate) fn finds_post(&self, post: Option<u64>) -> bool
-        ensures { result ≡ is_open_post_of (is_sought self.now) self.now.from self.now.lines.now post }
+        ensures { result ≡ is_open_post_of (is_sought self.now) self.now.hub.now self.now.from post }
     {
-        // the first post has number 1
         let Some(number) = post else { return false };
-        if number == 0 || number > self.lines.len() as u64 {
-            return false;
+        match self.hub.board().line(number) {
+            None => false,
+            Some(line) => self.finds_standard(&line),
         }
-        self.finds_standard(&self.lines[number as usize - 1])
     }
 }

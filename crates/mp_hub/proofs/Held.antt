@@ -2,7 +2,7 @@
 use Rattle.std.proofs.Common.{◌≡◌, ◌+◌, ℕ, zero, suc, inl, inr, List, [], ◌∷◌, ◌++◌, length, Bool, true, false, cond, not, Option, Some, None, refl, sym, ap, ◌∙◌, subst, arith, add-one, is_some, length-append, ◌↔◌, Result, Ok, Err, IfOk, OnOk, OnErr}
 use Rattle.std.specs.Prelude.{◌==◌, ◌&&◌, ◌||◌}
 use Rattle.std.specs.List.{All, list_all, slice_get, slice_set}
-use Rattle.std.proofs.lemmas.Bool.{and_parts, eq-eqb, eqb-true, not-true}
+use Rattle.std.proofs.lemmas.Bool.{and_parts, cases_Bool, eq-eqb, eqb-true, not-true}
 use Rattle.std.proofs.lemmas.Option.{same_Some}
 use Rattle.std.proofs.lemmas.List.Elements.{All-nil, All-cons, All-head, All-tail, All-push, All-weaker, All-filter}
 use Rattle.mp_types.specs.declared.messages.Envelope.{Envelope}
@@ -29,6 +29,7 @@ use Rattle.mp_probe.specs.declared.handles.ClaimFault.TheVariants.{BadMessage}
 use Rattle.mp_probe.specs.Claims.{is_claim, is_waiting, may_receive, next_number, without_claim, waiting_if}
 use Rattle.mp_hub.specs.Hub.{HubView, all_got, is_complete, is_known, may_collect, one_got, was_received}
 use Rattle.mp_hub.specs.Held.{IsHeldFor, AreHeld}
+use Rattle.mp_hub.specs.Claimed.{waits_for_receive}
 use Rattle.mp_hub.proofs.BoardKept.{one_lines, pairs_snoc}
 use Rattle.mp_hub.proofs.HeldKept.{set_other}
 use Rattle.mp_hub.proofs.Handles.{Owned, not_true, or_cases, or_none, receiving_claim, waits_no_longer}
@@ -430,3 +431,16 @@ pub held_when_may : (b c : Board) (ws vs : List Waiting) (rank n : ℕ) → may_
     → vs ≡ without_claim ws rank n → c ≡ (collect b n).1 → AreHeld b ws → AreHeld c vs
 held_when_may b c ws vs rank n may good after h =
     both_held (collect b n).1 c (without_claim ws rank n) vs after good (held_taken b ws rank n h may)
+
+-- whether the message of a send is claimed and not received is told by its claim while it is held
+pub only_claimed_is : (h : HubView) (n : ℕ) → AreHeld h.board h.claims
+    → waits_for_receive h (open_claim h.board n) ≡ waits_for_receive h (claim_of h.board n)
+only_claimed_is h n held = elim (cases_Bool (holds h.board n)) [
+  | inl full ↦ ap (λ b. waits_for_receive h (cond b (claim_of h.board n) None)) full
+  | inr empty ↦ ap (λ b. waits_for_receive h (cond b (claim_of h.board n) None)) empty
+      ∙ sym (none empty (claim_of h.board n) refl)
+]
+  where
+    none : holds h.board n ≡ false → (o : Option ℕ) → claim_of h.board n ≡ o → waits_for_receive h o ≡ false
+    none empty None e = refl
+    none empty (Some c) e = gone h.board h.claims held n c e empty

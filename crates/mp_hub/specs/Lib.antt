@@ -13,6 +13,7 @@ pub mod Finished
 pub mod Replies
 pub mod Links
 pub mod Vain
+pub mod Claimed
 pub mod Live
 pub mod Rows
 pub mod RankRows

@@ -1,5 +1,5 @@
 -- The text that `explore` prints for ranks that need buffers.
-use Rattle.std.specs.Prelude.{ℕ, ◌-◌, ◌==◌, ◌&&◌, not, cond, false, List, [], ◌∷◌, ◌++◌, codes, Option, Some, None, slice_get}
+use Rattle.std.specs.Prelude.{ℕ, ◌-◌, ◌||◌, cond, Bool, false, is_some, List, [], ◌∷◌, ◌++◌, codes, Option, Some, None, slice_get}
 use Rattle.std.specs.Prelude.{if◌then◌else◌, option_map}
 use Rattle.std.specs.List.{flat_map}
 use Rattle.std.specs.Option.{option_to_list}
@@ -8,10 +8,12 @@ use Rattle.rv_hart.specs.declared.state.Mode.{Mode}
 use Rattle.rv_hart.specs.declared.state.Mode.TheVariants.{Running}
 use Rattle.rv_image_types.specs.declared.images.ImageParts.{ImageParts}
 use Rattle.rv_image_types.specs.declared.images.Symbol.{Symbol}
-use Rattle.mp_match.specs.declared.posts.Post.{Post}
-use Rattle.mp_match.specs.declared.posts.Post.TheVariants as post
 use Rattle.mp_match.specs.FreePosts.{free_post}
+use Rattle.mp_hub.specs.Claimed.{is_only_claimed}
 use Rattle.mp_hub.specs.Hub.{HubView}
+use Rattle.mp_request.specs.declared.entries.OpenRequest.{OpenRequest}
+use Rattle.mp_request.specs.declared.entries.Transfer.{Transfer}
+use Rattle.mp_request.specs.declared.entries.Transfer.TheVariants as transfer
 use Rattle.mp_request.specs.Table.{request_at}
 use Rattle.cl_calls.specs.Calls.{call_named}
 use Rattle.cl_calls.specs.Site.{member}
@@ -50,32 +52,40 @@ rest_of rank = rest_of_hart rank.site (slice_get rank.harts 0)
 
 -- ---- a rank that is about to wait for its sends
 
--- the rank that is to receive what rank r sent in standard mode
-abbrev pub receiver_in : ℕ → Option Post → Option ℕ
-receiver_in r None = None
-receiver_in r (Some (post.Send sent)) = cond ((sent.envelope.source == r) && not sent.sync) (Some sent.dest) None
-receiver_in r (Some (post.Receive what)) = None
-receiver_in r (Some (post.Claim what)) = None
+-- the rank to which a request sends, by its number in the image
+abbrev pub receiver_in : Transfer → Option ℕ
+receiver_in (transfer.Send sync buffer count dest tag comm) = Some dest
+receiver_in _ = None
 
--- where nobody has the message of this post
-abbrev pub receiver_at : HubView → ℕ → Option ℕ → Option ℕ
-receiver_at hub r None = None
-receiver_at hub r (Some number) = receiver_in r (free_post hub.board number)
+abbrev pub receiver_of : Option OpenRequest → Option ℕ
+receiver_of None = None
+receiver_of (Some request) = receiver_in request.transfer
+
+-- no receive has the message of this post
+abbrev pub is_left_at : HubView → ℕ → Bool
+is_left_at hub number = is_some (free_post hub.board number) || is_only_claimed hub number
+
+-- the receiver of this request, if it is of a standard send whose message nobody received
+abbrev pub left_to : HubView → Option ℕ → Option ℕ → Option ℕ
+left_to hub None to = None
+left_to hub (Some number) to = cond (is_left_at hub number) to None
+
+abbrev pub receiver_at : HubView → Option OpenRequest → Option ℕ
+receiver_at hub request = left_to hub (post_of_send request) (receiver_of request)
 
 -- that it receives is what completes this request
-abbrev pub send_wait : HubView → ℕ → Rank → ℕ → List Wait
-send_wait hub r rank handle =
-    option_to_list
-    (option_map (λ to. wait.Receiver to) (receiver_at hub r (post_of_send (request_at rank.requests handle))))
+abbrev pub send_wait : HubView → Rank → ℕ → List Wait
+send_wait hub rank handle =
+    option_to_list (option_map (λ to. wait.Receiver to) (receiver_at hub (request_at rank.requests handle)))
 
 -- and all requests of the call that the rank's hart is about to make, in the order of their handles
-abbrev pub sends_ahead : HubView → ℕ → Rank → List Wait
-sends_ahead hub r rank = flat_map (send_wait hub r rank) (handles_ahead rank 0)
+abbrev pub sends_ahead : HubView → Rank → List Wait
+sends_ahead hub rank = flat_map (send_wait hub rank) (handles_ahead rank 0)
 
 -- of a hart that says that its sends are buffered none waits
-abbrev pub awaited_sends : HubView → ℕ → Rank → Option State → List Wait
-awaited_sends hub r rank None = []
-awaited_sends hub r rank (Some hart) = if says_buffered hart then [] else sends_ahead hub r rank
+abbrev pub awaited_sends : HubView → Rank → Option State → List Wait
+awaited_sends hub rank None = []
+awaited_sends hub rank (Some hart) = if says_buffered hart then [] else sends_ahead hub rank
 
 -- ---- ranks that are held up
 
@@ -102,7 +112,7 @@ abbrev pub held_text_at : ImageParts → ClusterState → ℕ → Option RankSta
 held_text_at image state number None = []
 held_text_at image state number (Some own) =
     let hart = slice_get (rank_of own).harts 0 in
-    held_rank_text image state number own hart (awaited_sends state.hub number (rank_of own) hart)
+    held_rank_text image state number own hart (awaited_sends state.hub (rank_of own) hart)
 
 -- the line of a rank that rests, and of another one what `why` tells of its harts; if the rank is there
 abbrev pub held_text : ImageParts → ClusterState → ℕ → List ℕ

@@ -9,15 +9,15 @@ ghost use Rattle.cl_state.specs.Room.{rank_of};
 ghost use Rattle.rvmc_inspect.specs.Texts.{hart_head};
 ghost use Rattle.rvmc_inspect.specs.Waits.{waits as waits_of};
 ghost use Rattle.rvmc_inspect.specs.Why.{more_ranks, rank_word};
-ghost use Rattle.rvmc_explore.specs.Needs.{awaited_sends, held_rank_text, held_text, need_line, need_text, receiver_at, rest_in, rest_line};
-ghost use Rattle.rvmc_explore.specs.Needs.{rest_of, send_wait, sends_ahead, behind_text};
+ghost use Rattle.rvmc_explore.specs.Needs.{awaited_sends, behind_text, held_rank_text, held_text, is_left_at, need_line, need_text};
+ghost use Rattle.rvmc_explore.specs.Needs.{receiver_at, receiver_of, rest_in, rest_line, rest_of, send_wait, sends_ahead};
 
 use cl_calls::{Call, Site, call_name, called_number};
 use cl_replay::ClusterState;
 use cl_rests::{handles_ahead, post_of_send, says_buffered};
 use cl_state::RankState;
 use mp_hub::HubState;
-use mp_match::Post;
+use mp_request::{OpenRequest, Transfer};
 use rv_hart::{Hart, Mode};
 use rv_image_types::{Image, Symbol};
 use rvmc_inspect::{Wait, put_harts, put_waits, waits};
@@ -71,29 +71,49 @@ fn rest_of(own: &RankState) -> Option<Rest>
     }
 }
 
-/// The rank that is to receive the message of this post, if it is one that the rank sent in standard mode, and nobody has it.
-fn receiver_at(hub: &HubState, rank: u8, post: Option<u64>) -> Option<u8>
-    ensures { result ≡ receiver_at hub.now rank post }
+/// The rank to which a request sends, if it does.
+fn receiver_of(request: &Option<OpenRequest>) -> Option<u8>
+    ensures { result ≡ receiver_of request.now }
 {
-    match hub.free_post(post?) {
-        Some(Post::Send(sent)) if sent.envelope.source == rank && !sent.sync => Some(sent.dest),
+    match request {
+        Some(
+            OpenRequest {
+                transfer: Transfer::Send { dest, .. },
+                ..
+            },
+        ) => Some(*dest),
         _ => None,
     }
 }
 
-/// Adds the receive that completes the request of this handle, if it is of a send whose message nobody has.
+/// Whether no receive has the message of this post: a matched probe may.
+fn is_left_at(hub: &HubState, post: u64) -> bool
+    ensures { result ≡ is_left_at hub.now post }
+{
+    hub.free_post(post).is_some() || hub.is_only_claimed(post)
+}
+
+/// The rank that is to receive what a request sends, if it is a standard send whose message nobody received.
+fn receiver_at(hub: &HubState, request: &Option<OpenRequest>) -> Option<u8>
+    ensures { result ≡ receiver_at hub.now request.now }
+{
+    match post_of_send(request) {
+        Some(post) if is_left_at(hub, post) => receiver_of(request),
+        _ => None,
+    }
+}
+
+/// Adds the receive that completes the request of this handle, if it is of a send whose message nobody received.
 fn add_wait(
     found: &mut Vec<Wait>,
     hub: &HubState,
-    rank: u8,
     own: &RankState,
     handle: u64,
 ) -> Result<(), AllocError>
-    ensures { OnOk result
-        (found.new.items ≡ found.old.items ++ send_wait hub.now rank (rank_of own.now) handle) }
+    ensures { OnOk result (found.new.items ≡ found.old.items ++ send_wait hub.now (rank_of own.now) handle) }
 {
     let request = own.requests.get(handle);
-    match receiver_at(hub, rank, post_of_send(&request)) {
+    match receiver_at(hub, &request) {
         None => Ok(()),
         Some(to) => {
             found.push(Wait::Receiver { rank: to })?;
@@ -106,46 +126,35 @@ fn add_wait(
 fn add_waits(
     found: &mut Vec<Wait>,
     hub: &HubState,
-    rank: u8,
     own: &RankState,
     handles: &[u64],
 ) -> Result<(), AllocError>
     ensures { OnOk result
-        (found.new.items ≡ found.old.items ++ flat_map (send_wait hub.now rank (rank_of own.now)) handles.now) }
+        (found.new.items ≡ found.old.items ++ flat_map (send_wait hub.now (rank_of own.now)) handles.now) }
 {
     for handle in handles {
-        add_wait(found, hub, rank, own, *handle)?;
+        add_wait(found, hub, own, *handle)?;
     }
     Ok(())
 }
 
 /// The receives that the call waits for which the rank's first hart is about to make, in the order of its handles.
-fn sends_ahead(
-    alloc: Global,
-    hub: &HubState,
-    rank: u8,
-    own: &RankState,
-) -> Result<Vec<Wait>, AllocError>
-    ensures { IfOk result (λ found. found.items ≡ sends_ahead hub.now rank (rank_of own.now)) }
+fn sends_ahead(alloc: Global, hub: &HubState, own: &RankState) -> Result<Vec<Wait>, AllocError>
+    ensures { IfOk result (λ found. found.items ≡ sends_ahead hub.now (rank_of own.now)) }
 {
     let mut found = Vec::new(alloc);
     let handles = handles_ahead(own);
-    add_waits(&mut found, hub, rank, own, handles.as_slice())?;
+    add_waits(&mut found, hub, own, handles.as_slice())?;
     Ok(found)
 }
 
 /// The same, but of a hart that says that its sends are buffered none.
-fn awaited_sends(
-    alloc: Global,
-    hub: &HubState,
-    rank: u8,
-    own: &RankState,
-) -> Result<Vec<Wait>, AllocError>
+fn awaited_sends(alloc: Global, hub: &HubState, own: &RankState) -> Result<Vec<Wait>, AllocError>
     ensures { IfOk result
-        (λ found. found.items ≡ awaited_sends hub.now rank (rank_of own.now) (slice_get (rank_of own.now).harts 0)) }
+        (λ found. found.items ≡ awaited_sends hub.now (rank_of own.now) (slice_get (rank_of own.now).harts 0)) }
 {
     match own.harts.get(0) {
-        Some(hart) if !says_buffered(hart) => sends_ahead(alloc, hub, rank, own),
+        Some(hart) if !says_buffered(hart) => sends_ahead(alloc, hub, own),
         _ => Ok(Vec::new(alloc)),
     }
 }
@@ -269,7 +278,7 @@ fn put_held(
     let Some(own) = state.ranks.get(number) else {
         return Ok(());
     };
-    let sends = awaited_sends(alloc, &state.hub, rank, own)?;
+    let sends = awaited_sends(alloc, &state.hub, own)?;
     put_held_rank(alloc, text, image, state, number, own, sends.as_slice())
 }
 

@@ -1,6 +1,7 @@
 //! Calls that would be answered NotYet, told without making them, and what they wait for.
 
 ghost use Rattle.std.specs.Prelude.{◌≡◌, None, Some};
+ghost use Rattle.mp_hub.specs.Claimed.{is_only_claimed};
 ghost use Rattle.mp_hub.specs.Vain.{asks_in_vain};
 ghost use Rattle.mp_match.specs.Board.{is_receive_of};
 ghost use Rattle.mp_match.specs.FreePosts.{free_post};
@@ -65,6 +66,16 @@ impl HubState {
         ensures { result ≡ free_post self.now.board post }
     {
         self.queues.free_post(post)
+    }
+
+    /// Whether a matched probe has the message of this send, and nobody received it yet (MPI 4.1, 3.8.2).
+    pub fn is_only_claimed(&self, post: u64) -> bool
+        ensures { result ≡ is_only_claimed self.now post }
+    {
+        match self.queues.claim_of(post) {
+            None => false,
+            Some(claim) => self.claims.is_waiting(claim),
+        }
     }
 
     /// The image's links.

@@ -1,4 +1,4 @@
-use Rattle.std.proofs.Common.{option_map, sym, ap, ◌∙◌}
+use Rattle.std.proofs.Common.{option_map, sym, ◌∙◌}
 use Rattle.cl_rests.specs.Sought.{is_to}
 use Rattle.cl_rests.proofs.Found.{own_read, rests_is}
 use Rattle.cl_rests.proofs.resting.rests_to.Goals as goal
@@ -10,5 +10,5 @@ returns c = λ image here stands.
     let own = c.index.result.now in
     let at = own_read ranks.items c.len.result c.from-place.result c.args.rank own (c.len.ensures ∙ ranks.ok.0)
     c.if-place-len.false c.index.ensures c.from-place.ensures in
-    c.rests_in.ensures standing.whole (sym (c.lines.ensures.lines ∙ ap (λ b. b.lines) c.board.ensures))
+    c.rests_in.ensures
     ∙ sym (rests_is image standing here stands c.args.rank (is_to (option_map (λ ranks. ranks.now) c.args.to)) own at)

@@ -8,4 +8,4 @@ use Rattle.rvmc_explore.proofs.needs.add_waits.Given as goal
 abbrev pub invariant-loop-handle : goal.invariant-loop-handle
 invariant-loop-handle l =
     l.found.items
-    ≡ l.fn.found.items ++ flat_map (send_wait l.hub l.rank (rank_of l.own)) (take l.handle-index l.handles)
+    ≡ l.fn.found.items ++ flat_map (send_wait l.hub (rank_of l.own)) (take l.handle-index l.handles)
