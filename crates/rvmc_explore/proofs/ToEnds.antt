@@ -1,5 +1,5 @@
 -- A record of an outcome, and that there is none.
-use Rattle.std.proofs.Common.{ℕ, Bool, true, false, ◌≡◌, ◌≤◌, ◌∙◌, zero, suc, ap, length, List, None, Option, Some, inl, inr, refl, slice_get, subst, sym}
+use Rattle.std.proofs.Common.{ℕ, Bool, ◌≡◌, ◌≤◌, ◌∙◌, zero, suc, ap, length, List, None, Option, Some, inl, inr, refl, slice_get, subst, sym}
 use Rattle.std.proofs.lemmas.Option.{slice_get_past}
 use Rattle.rv_image_types.specs.Image.{IsImage}
 use Rattle.rv_image_types.specs.declared.images.ImageParts.{ImageParts}
