@@ -13,8 +13,8 @@ use Rattle.mp_alike_laws.specs.Renaming.{Renaming, line_by, turned}
 use Rattle.mp_source_laws.specs.Alike.{AlikeBoards, Wild}
 use Rattle.mp_source_laws.proofs.Likeness.{hub_back}
 use Rattle.mp_source_laws.proofs.Over.{free_is_live, same_or_over}
-use Rattle.cl_rest_laws.specs.Unpaired.{is_send, is_unpaired}
-use Rattle.cl_rest_laws.specs.UnpairedLaw.{UnpairedLaw, unpaired_count}
+use Rattle.cl_rest_laws.specs.Unpaired.{is_send}
+use Rattle.cl_rest_laws.specs.UnpairedLaw.{UnpairedLaw, is_unpaired, unpaired_count}
 
 -- ---- marks
 

@@ -35,7 +35,7 @@ use Rattle.mp_source_laws.proofs.Named.{claim_named}
 use Rattle.mp_source_laws.proofs.Over.{free_is_live, same_or_over}
 use Rattle.mp_alike.proofs.HeldAlways.{held_always}
 use Rattle.cl_rest_laws.specs.Unpaired.{is_send}
-use Rattle.cl_rest_laws.specs.Unreceived.{is_left, is_left_by, is_unreceived, is_unreceived_at, is_unreceived_in}
+use Rattle.cl_rest_laws.specs.Unreceived.{lacks_receive, lacks_receive_by, is_unreceived, is_unreceived_at, is_unreceived_in}
 
 -- ---- one of which a test holds
 
@@ -64,7 +64,7 @@ pub record IsLeft (t p : Sent → Bool) (h : HubView) (i : ℕ) : Type 0 where
   pub there : slice_get h.board.lines i ≡ Some line
   pub what : Sent
   pub sends : line.post ≡ post.Send what
-  pub left : is_left h line ≡ true
+  pub left : lacks_receive h line ≡ true
   pub its : t what ≡ true
   pub holds : p what ≡ true
 
@@ -73,13 +73,13 @@ record IsSend (p : Sent → Bool) (h : HubView) (line : Line) : Type 0 where
   what : Sent
   sends : line.post ≡ post.Send what
   holds : p what ≡ true
-  left : is_left h line ≡ true
+  left : lacks_receive h line ≡ true
 
 opened : (p : Sent → Bool) (h : HubView) (line : Line) → is_unreceived p h line ≡ true → IsSend p h line
 opened p h line is =
-    (let two = and_parts (is_send p (Some line.post)) (is_left h line) is in go line.post refl two.0 two.1)
+    (let two = and_parts (is_send p (Some line.post)) (lacks_receive h line) is in go line.post refl two.0 two.1)
   where
-    go : (q : Post) → line.post ≡ q → is_send p (Some q) ≡ true → is_left h line ≡ true → IsSend p h line
+    go : (q : Post) → line.post ≡ q → is_send p (Some q) ≡ true → lacks_receive h line ≡ true → IsSend p h line
     go (post.Send s) e is left = record { what = s; sends = e; holds = is; left = left }
     go (post.Receive a) e is left = absurd (cc)
     go (post.Claim a) e is left = absurd (cc)
@@ -105,7 +105,7 @@ module _ (t p : Sent → Bool) (h : HubView) where
 
   left_unreceived : (i : ℕ) (l : IsLeft t p h i) → is_unreceived both h l.line ≡ true
   left_unreceived i l =
-      and_from (is_send both (Some (l.line).post)) (is_left h l.line)
+      and_from (is_send both (Some (l.line).post)) (lacks_receive h l.line)
       (ap (λ (q : Post). is_send both (Some q)) l.sends ∙ and_from (t l.what) (p l.what) l.its l.holds) l.left
 
   pub any_left : list_any (is_unreceived both h) h.board.lines ≡ true → (i : ℕ) × IsLeft t p h i
@@ -187,14 +187,14 @@ module _ (s : ℕ) (h k : HubView) (moved : Moves all s h k) (laid : Laid h) whe
         absurd (cc)
   ]
 
-  left_back : (i : ℕ) (m : Line) → slice_get h.board.lines i ≡ Some m → is_left k m ≡ true → is_left h m ≡ true
+  left_back : (i : ℕ) (m : Line) → slice_get h.board.lines i ≡ Some m → lacks_receive k m ≡ true → lacks_receive h m ≡ true
   left_back i m here is = go m.partner refl is
     where
-      go : (o : Option ℕ) → m.partner ≡ o → is_left_by k o ≡ true → is_left_by h m.partner ≡ true
-      go None e is = ap (is_left_by h) e
+      go : (o : Option ℕ) → m.partner ≡ o → lacks_receive_by k o ≡ true → lacks_receive_by h m.partner ≡ true
+      go None e is = ap (lacks_receive_by h) e
       go (Some j) e is =
           let b = beside i j m here e in
-          ap (is_left_by h) e
+          ap (lacks_receive_by h) e
           ∙ waits_back j b.other (claim_at h.board (Some j)) b.here refl
           (sym (ap (waits_for_receive k) (claim_same m j b)) ∙ is)
 
@@ -237,15 +237,15 @@ module _ (s : ℕ) (h k : HubView) (moved : Moves all s h k) (laid : Laid h) whe
       (may_stay who.0 (λ e. apart (dest ∙ e)) n who.1 moved.claims)
 
   left_on : (i : ℕ) (m : Line) (what : Sent) → slice_get h.board.lines i ≡ Some m → m.post ≡ post.Send what
-      → what.dest ≢ s → is_left h m ≡ true
-      → is_left k m ≡ true
+      → what.dest ≢ s → lacks_receive h m ≡ true
+      → lacks_receive k m ≡ true
   left_on i m what here sends apart is = go m.partner refl is
     where
-      go : (o : Option ℕ) → m.partner ≡ o → is_left_by h o ≡ true → is_left_by k m.partner ≡ true
-      go None e is = ap (is_left_by k) e
+      go : (o : Option ℕ) → m.partner ≡ o → lacks_receive_by h o ≡ true → lacks_receive_by k m.partner ≡ true
+      go None e is = ap (lacks_receive_by k) e
       go (Some j) e is =
           let b = beside i j m here e in
-          ap (is_left_by k) e ∙ ap (waits_for_receive k) (claim_same m j b)
+          ap (lacks_receive_by k) e ∙ ap (waits_for_receive k) (claim_same m j b)
           ∙ waits_on m what j sends apart b (claim_at h.board (Some j)) refl is
 
   module _ (r : ℕ) (t p : Sent → Bool) (of : (m : Sent) → t m ≡ true → m.envelope.source ≡ r) (i : ℕ) where
@@ -282,7 +282,7 @@ module _ (s : ℕ) (h k : HubView) (moved : Moves all s h k) (laid : Laid h) whe
               there = there;
               what = left.what;
               sends = sym (ap (λ (y : Line). y.post) e) ∙ left.sends;
-              left = ap (is_left_by h) (subst (λ (y : Line). y.partner ≡ None) same c.free);
+              left = ap (lacks_receive_by h) (subst (λ (y : Line). y.partner ≡ None) same c.free);
               its = left.its;
               holds = left.holds;
             }
@@ -343,7 +343,7 @@ module _ {wild : Wild} (names : Renaming) (h k : HubView) (alike : AlikeHubs wil
       absurd (cc)
 
   is_live : (i : ℕ) (line : Line) (s : Sent) → slice_get h.board.lines i ≡ Some line → line.post ≡ post.Send s
-      → is_left h line ≡ true → IsOver h.board i → ⊥
+      → lacks_receive h line ≡ true → IsOver h.board i → ⊥
   is_live i line s here sends left over = go line.partner refl left over
     where
       no_receive : IsOverReceive h.board i → ⊥
@@ -352,7 +352,7 @@ module _ {wild : Wild} (names : Renaming) (h k : HubView) (alike : AlikeHubs wil
           let no : post.Send s ≡ post.Receive o.what = sym sends ∙ ap (λ (x : Line). x.post) same in
           absurd (cc)
 
-      go : (o : Option ℕ) → line.partner ≡ o → is_left_by h o ≡ true → IsOver h.board i → ⊥
+      go : (o : Option ℕ) → line.partner ≡ o → lacks_receive_by h o ≡ true → IsOver h.board i → ⊥
       go None e left over = free_is_live h.board i line here e over
       go (Some j) e left (inl sent) = still_held i j line here e left sent
       go (Some j) e left (inr received) = no_receive received
@@ -362,15 +362,15 @@ module _ {wild : Wild} (names : Renaming) (h k : HubView) (alike : AlikeHubs wil
   same_waits (Some n) = ap (λ ws. is_waiting ws n) alike.claims
 
   left_too : (i : ℕ) (line : Line) → slice_get h.board.lines i ≡ Some line → IsSameAt names h.board k.board i
-      → is_left h line ≡ true → is_left k (line_by names line) ≡ true
+      → lacks_receive h line ≡ true → lacks_receive k (line_by names line) ≡ true
   left_too i line here same left = go line.partner refl left
     where
       there : slice_get k.board.lines (names.to i) ≡ Some (line_by names line)
       there = same ∙ ap (option_map (line_by names)) here
 
-      go : (o : Option ℕ) → line.partner ≡ o → is_left_by h o ≡ true
-          → is_left_by k (option_map names.to line.partner) ≡ true
-      go None e left = ap (λ o. is_left_by k (option_map names.to o)) e
+      go : (o : Option ℕ) → line.partner ≡ o → lacks_receive_by h o ≡ true
+          → lacks_receive_by k (option_map names.to line.partner) ≡ true
+      go None e left = ap (λ o. lacks_receive_by k (option_map names.to o)) e
       go (Some j) e left =
           let mine : claim_of h.board (suc i) ≡ claim_at h.board (Some j) =
           ap (claim_at h.board) (ap partner_of_line here ∙ e) in
@@ -378,7 +378,7 @@ module _ {wild : Wild} (names : Renaming) (h k : HubView) (alike : AlikeHubs wil
           ap (claim_at k.board) (ap partner_of_line there ∙ ap (option_map names.to) e) in
           let claims : claim_at k.board (Some (names.to j)) ≡ claim_at h.board (Some j) =
           sym its ∙ claim_named names h.board k.board alike.board (suc i) same ∙ mine in
-          ap (λ o. is_left_by k (option_map names.to o)) e ∙ ap (waits_for_receive k) claims
+          ap (λ o. lacks_receive_by k (option_map names.to o)) e ∙ ap (waits_for_receive k) claims
           ∙ same_waits (claim_at h.board (Some j)) ∙ left
 
   pub place_too : (i : ℕ) → is_unreceived_at p h (suc i) ≡ true → is_unreceived_at p k (suc (names.to i)) ≡ true
@@ -392,7 +392,7 @@ module _ {wild : Wild} (names : Renaming) (h k : HubView) (alike : AlikeHubs wil
           let same = same_or_over names h.board k.board i ((alike.board).lines i)
           (is_live i line o.what here o.sends o.left) in
           ap (is_unreceived_in p k) (same ∙ ap (option_map (line_by names)) here)
-          ∙ and_from (is_send p (Some line.post)) (is_left k (line_by names line))
+          ∙ and_from (is_send p (Some line.post)) (lacks_receive k (line_by names line))
           (ap (λ (q : Post). is_send p (Some q)) o.sends ∙ o.holds) (left_too i line here same o.left)
 
   one_too : list_any (is_unreceived p h) h.board.lines ≡ true → list_any (is_unreceived p k) k.board.lines ≡ true

@@ -10,16 +10,16 @@ use Rattle.cl_rest_laws.specs.Unpaired.{is_send}
 
 -- nobody received the message of a send that has no partner, or whose partner is a matched probe at this place that waits for
 -- its receive
-abbrev pub is_left_by : HubView → Option ℕ → Bool
-is_left_by h None = true
-is_left_by h (Some place) = waits_for_receive h (claim_at h.board (Some place))
+abbrev pub lacks_receive_by : HubView → Option ℕ → Bool
+lacks_receive_by h None = true
+lacks_receive_by h (Some place) = waits_for_receive h (claim_at h.board (Some place))
 
-abbrev pub is_left : HubView → Line → Bool
-is_left h line = is_left_by h line.partner
+abbrev pub lacks_receive : HubView → Line → Bool
+lacks_receive h line = lacks_receive_by h line.partner
 
 -- the line is a send of which this holds, and nobody received its message
 abbrev pub is_unreceived : (Sent → Bool) → HubView → Line → Bool
-is_unreceived p h line = is_send p (Some line.post) && is_left h line
+is_unreceived p h line = is_send p (Some line.post) && lacks_receive h line
 
 abbrev pub is_unreceived_in : (Sent → Bool) → HubView → Option Line → Bool
 is_unreceived_in p h None = false

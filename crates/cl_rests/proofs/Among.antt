@@ -18,7 +18,7 @@ use Rattle.cl_rest_laws.specs.Buffering.{RestsAmong}
 use Rattle.cl_rest_laws.specs.Rests.{handles_ahead, is_message_of, is_open_post, post_of_send, rests_before, rests_behind}
 use Rattle.cl_rest_laws.specs.Rests.{rests_if, says_buffered, spelled, stands_behind_call}
 use Rattle.cl_rest_laws.specs.Unpaired.{is_send}
-use Rattle.cl_rest_laws.specs.Unreceived.{is_left, is_unreceived, is_unreceived_in}
+use Rattle.cl_rest_laws.specs.Unreceived.{lacks_receive, is_unreceived, is_unreceived_in}
 use Rattle.cl_state.specs.Asked.{part_of}
 use Rattle.cl_rests.specs.Held.{IsRestBesideIf}
 use Rattle.cl_rests.specs.Sought.{is_to}
@@ -68,7 +68,7 @@ one_send also (Some (Claim a)) = never
 
 module _ (hub : HubView) (also : Sent → Bool) where
   one_line : (line : Line) → IsByOne (λ p. is_unreceived (λ m. also m && p m) hub line)
-  one_line line = and_too (λ p. is_send (λ m. also m && p m) (Some line.post)) (is_left hub line) (one_send also (Some line.post))
+  one_line line = and_too (λ p. is_send (λ m. also m && p m) (Some line.post)) (lacks_receive hub line) (one_send also (Some line.post))
 
   one_in : (o : Option Line) → IsByOne (λ p. is_unreceived_in (λ m. also m && p m) hub o)
   one_in None = never

@@ -23,7 +23,7 @@ use Rattle.cl_state.specs.Room.{rank_of}
 use Rattle.cl_rest_laws.specs.Rests.{handles_ahead, is_message_of, is_sent_with}
 use Rattle.cl_rest_laws.specs.Rests.{rests_behind, rests_if, rests_in, spelled, stands_behind_call}
 use Rattle.cl_rest_laws.specs.Unpaired.{is_send}
-use Rattle.cl_rest_laws.specs.Unreceived.{is_left, is_unreceived}
+use Rattle.cl_rest_laws.specs.Unreceived.{lacks_receive, is_unreceived}
 use Rattle.cl_order_laws.specs.Alike.{hub_of}
 use Rattle.cl_order_laws.specs.Closed.{Node}
 use Rattle.cl_moves.specs.Standing.{StandsAt}
@@ -43,7 +43,7 @@ module _ (p : Sent → Bool) (never : (m : Sent) → p m ≡ false) (hub : HubVi
   none_unreceived : (lines : List Line) → list_any (is_unreceived p hub) lines ≡ false
   none_unreceived [] = refl
   none_unreceived (l ∷ ls) =
-      ap (λ b. b || list_any (is_unreceived p hub) ls) (not_one l.post (is_left hub l)) ∙ none_unreceived ls
+      ap (λ b. b || list_any (is_unreceived p hub) ls) (not_one l.post (lacks_receive hub l)) ∙ none_unreceived ls
 
 -- ---- behind a SEND
 

@@ -7,7 +7,7 @@ ghost use Rattle.mp_match.specs.Board.{claim_at};
 ghost use Rattle.mp_probe.specs.Claims.{is_waiting as is_waiting_of};
 ghost use Rattle.cl_deadlock_laws.specs.Stuck.{is_among as is_among_of};
 ghost use Rattle.cl_rest_laws.specs.Rests.{is_open_post as is_open_post_of, is_sent_with};
-ghost use Rattle.cl_rest_laws.specs.Unreceived.{is_left as is_left_of, is_unreceived};
+ghost use Rattle.cl_rest_laws.specs.Unreceived.{lacks_receive as lacks_receive_of, is_unreceived};
 ghost use Rattle.cl_rests.specs.Sought.{is_sought, is_sought_by, is_sought_standard};
 
 use cl_calls::{Sending, Site};
@@ -66,8 +66,8 @@ fn waits_for_receive(hub: &WholeHub, place: u64) -> bool
 }
 
 /// Whether nobody received the message of the send on this line.
-fn is_left(hub: &WholeHub, line: &Line) -> bool
-    ensures { result ≡ is_left_of hub.now line.now }
+fn lacks_receive(hub: &WholeHub, line: &Line) -> bool
+    ensures { result ≡ lacks_receive_of hub.now line.now }
 {
     match line.partner {
         None => true,
@@ -94,7 +94,7 @@ impl Sought<'_> {
             Post::Send(sent) => {
                 is_sent(site, self.from, sending, &sent)
                     && self.is_to(&sent)
-                    && is_left(self.hub, line)
+                    && lacks_receive(self.hub, line)
             }
             _ => false,
         }
@@ -121,7 +121,7 @@ impl Sought<'_> {
                 sent.envelope.source == self.from
                     && !sent.sync
                     && self.is_to(&sent)
-                    && is_left(self.hub, line)
+                    && lacks_receive(self.hub, line)
             }
             _ => false,
         }

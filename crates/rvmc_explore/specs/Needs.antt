@@ -53,25 +53,25 @@ rest_of rank = rest_of_hart rank.site (slice_get rank.harts 0)
 -- ---- a rank that is about to wait for its sends
 
 -- the rank to which a request sends, by its number in the image
-abbrev pub receiver_in : Transfer → Option ℕ
-receiver_in (transfer.Send sync buffer count dest tag comm) = Some dest
-receiver_in _ = None
+abbrev pub sends_by : Transfer → Option ℕ
+sends_by (transfer.Send sync buffer count dest tag comm) = Some dest
+sends_by _ = None
 
-abbrev pub receiver_of : Option OpenRequest → Option ℕ
-receiver_of None = None
-receiver_of (Some request) = receiver_in request.transfer
+abbrev pub sends_to : Option OpenRequest → Option ℕ
+sends_to None = None
+sends_to (Some request) = sends_by request.transfer
 
 -- no receive has the message of this post
-abbrev pub is_left_at : HubView → ℕ → Bool
-is_left_at hub number = is_some (free_post hub.board number) || is_only_claimed hub number
+abbrev pub lacks_receive_at : HubView → ℕ → Bool
+lacks_receive_at hub number = is_some (free_post hub.board number) || is_only_claimed hub number
 
 -- the receiver of this request, if it is of a standard send whose message nobody received
 abbrev pub left_to : HubView → Option ℕ → Option ℕ → Option ℕ
 left_to hub None to = None
-left_to hub (Some number) to = cond (is_left_at hub number) to None
+left_to hub (Some number) to = cond (lacks_receive_at hub number) to None
 
 abbrev pub receiver_at : HubView → Option OpenRequest → Option ℕ
-receiver_at hub request = left_to hub (post_of_send request) (receiver_of request)
+receiver_at hub request = left_to hub (post_of_send request) (sends_to request)
 
 -- that it receives is what completes this request
 abbrev pub send_wait : HubView → Rank → ℕ → List Wait

@@ -9,8 +9,8 @@ ghost use Rattle.cl_state.specs.Room.{rank_of};
 ghost use Rattle.rvmc_inspect.specs.Texts.{hart_head};
 ghost use Rattle.rvmc_inspect.specs.Waits.{waits as waits_of};
 ghost use Rattle.rvmc_inspect.specs.Why.{more_ranks, rank_word};
-ghost use Rattle.rvmc_explore.specs.Needs.{awaited_sends, behind_text, held_rank_text, held_text, is_left_at, need_line, need_text};
-ghost use Rattle.rvmc_explore.specs.Needs.{receiver_at, receiver_of, rest_in, rest_line, rest_of, send_wait, sends_ahead};
+ghost use Rattle.rvmc_explore.specs.Needs.{awaited_sends, behind_text, held_rank_text, held_text, lacks_receive_at, need_line, need_text};
+ghost use Rattle.rvmc_explore.specs.Needs.{receiver_at, sends_to, rest_in, rest_line, rest_of, send_wait, sends_ahead};
 
 use cl_calls::{Call, Site, call_name, called_number};
 use cl_replay::ClusterState;
@@ -72,8 +72,8 @@ fn rest_of(own: &RankState) -> Option<Rest>
 }
 
 /// The rank to which a request sends, if it does.
-fn receiver_of(request: &Option<OpenRequest>) -> Option<u8>
-    ensures { result ≡ receiver_of request.now }
+fn sends_to(request: &Option<OpenRequest>) -> Option<u8>
+    ensures { result ≡ sends_to request.now }
 {
     match request {
         Some(
@@ -87,8 +87,8 @@ fn receiver_of(request: &Option<OpenRequest>) -> Option<u8>
 }
 
 /// Whether no receive has the message of this post: a matched probe may.
-fn is_left_at(hub: &HubState, post: u64) -> bool
-    ensures { result ≡ is_left_at hub.now post }
+fn lacks_receive_at(hub: &HubState, post: u64) -> bool
+    ensures { result ≡ lacks_receive_at hub.now post }
 {
     hub.free_post(post).is_some() || hub.is_only_claimed(post)
 }
@@ -98,7 +98,7 @@ fn receiver_at(hub: &HubState, request: &Option<OpenRequest>) -> Option<u8>
     ensures { result ≡ receiver_at hub.now request.now }
 {
     match post_of_send(request) {
-        Some(post) if is_left_at(hub, post) => receiver_of(request),
+        Some(post) if lacks_receive_at(hub, post) => sends_to(request),
         _ => None,
     }
 }

@@ -9,8 +9,8 @@ use Rattle.mp_match.specs.declared.posts.Post.{Post}
 use Rattle.mp_match.specs.declared.posts.Post.TheVariants.{Send, Receive, Claim}
 use Rattle.mp_match.specs.declared.posts.Sent.{Sent}
 use Rattle.mp_match.specs.Free.{free_in}
-use Rattle.cl_rest_laws.specs.Unpaired.{is_send, is_unpaired}
-use Rattle.cl_rest_laws.specs.UnpairedLaw.{unpaired_count}
+use Rattle.cl_rest_laws.specs.Unpaired.{is_send}
+use Rattle.cl_rest_laws.specs.UnpairedLaw.{is_unpaired, unpaired_count}
 use Rattle.rvmc_inspect.specs.Unreceived.{count_of_sends, is_of, messages_text, number_line, sender_lines, sent_in, sent_to, tag_count, unreceived, unreceived_head, unreceived_text}
 
 -- how many there are of which it holds, one after another
