@@ -44,6 +44,11 @@ class Contests(races.Races):
             pieces = self.such(lambda: super(Contests, self).receives(message))
         return [*pieces[:-1], pieces[-1] + self.cleared(1)] if self.is_traceless else pieces
 
+    def exchanges(self, sent, received):
+        """A send and a receive that hang together."""
+        pieces = self.such(lambda: super(Contests, self).exchanges(sent, received))
+        return [*pieces[:-1], pieces[-1] + self.cleared(1)] if self.is_traceless else pieces
+
     @staticmethod
     def cleared(count):
         """The lines that clear so many buffers, so that nothing is left of what came."""

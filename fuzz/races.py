@@ -188,6 +188,25 @@ class Races:
             return [lines, self.call(MRECV, buffer, cap, handle, self.status())]
         return [lines, *self.opened(IMRECV, buffer, cap, handle)]
 
+    def exchanges(self, sent, received):
+        """A send and a receive that hang together: a WAITALL of both, where perhaps nothing comes, or a send behind a matched probe
+        of what is received behind the send."""
+        selected = self.selected(received)
+        buffer, cap = self.incoming()
+        if self.chance(1, 2):
+            claimed, *others = self.claims(MPROBE if self.chance(2, 3) else IMPROBE, selected, buffer, cap)
+            return [claimed, *self.sends(sent), *others]
+        _, dest, tag, comm = sent
+        source, wanted, context = selected
+        wanted = 2 if self.chance(1, 3) else wanted
+        sends = self.kept(self.call(ISEND, *self.outgoing(), self.comms[comm].index(dest), tag, comm))
+        receives = self.kept(self.call(IRECV, buffer, cap, source, wanted, context))
+        both, lists = self.random.sample([sends, receives], 2), (LISTS + 16 * self.below(3),)
+        handles = [handle for _, handle in self.random.sample(both, 2)]
+        array = [f"sd {handle}, {lists[0] + 8 * place}(s0)" for place, handle in enumerate(handles)]
+        buffered = [0, 0, BUFFERED] if self.chance(1, 10) else []
+        return [*(lines for lines, _ in both), array + self.call(WAITALL, lists, 2, 0, *buffered)]
+
     def parts(self, link, is_source, token):
         """One side of a partitioned transfer, over a phase or two. A token may come behind the partitions of the first, so
         that the other side knows that they are there, and its look may miss them all the same."""
@@ -282,8 +301,9 @@ class Races:
     def things(self, rank, hart, messages, links, token):
         """What a hart does: its rank's part in each message and link, or where there is another hart what is drawn of it."""
         mine = [message for message in messages if self.harts == 1 or self.chance(7 if hart else 6, 12)]
-        things = [self.sends(message) for message in mine if message[0] == rank]
-        things += [self.receives(message) for message in mine if message[1] == rank]
+        sent, received = ([message for message in mine if message[side] == rank] for side in (0, 1))
+        things = [self.exchanges(sent.pop(), received.pop())] if sent and received and self.chance(1, 3) else []
+        things += [*map(self.sends, sent), *map(self.receives, received)]
         for link in links:
             if rank in link and hart == 0:
                 things.append(self.parts(link, rank == link[0], token))

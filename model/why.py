@@ -228,8 +228,15 @@ class Rest:
         self.hart, self.receivers = hart, receivers
 
 
+def is_unreceived(send):
+    """Whether nobody received a send's message: no receive has it, and a matched probe has it at most."""
+    claim = send.partner
+    return claim is None or (claim.kind == "claim" and not claim.received)
+
+
 def rest_behind(hub, rank, comms):
-    """A rank that rests right behind a standard send whose message nobody received, or None."""
+    """A rank that rests right behind a standard send whose message nobody received, or None. Of messages that look alike, it rests
+    for each that nobody received."""
     hart = rank.harts[0]
     if hart.mode != RUNNING or hart.pc < 4 or bytes(rank.memory.bytes[hart.pc - 4 : hart.pc]) != ECALL.to_bytes(4, "little"):
         return None
@@ -237,7 +244,7 @@ def rest_behind(hub, rank, comms):
     members = comms[comm] if comm < len(comms) else []
     if call != 16 or code or buffered == BUFFERED or rank.number not in members or dest >= len(members):
         return None
-    sends = [post for post in hub.posts if post.kind == "send" and post.partner is None and not post.sync]
+    sends = [post for post in hub.posts if post.kind == "send" and not post.sync and is_unreceived(post)]
     sent = members[dest], (comm, rank.number, tag)
     if not any((post.dest, tuple(post.envelope[:3])) == sent for post in sends):
         return None
@@ -250,7 +257,7 @@ def rest_before(hub, rank):
     """A rank that rests before a WAIT or WAITALL of standard sends of which nobody received one, or None."""
     hart = rank.harts[0]
     posts = [] if hart.regs[15] == BUFFERED else [hub.post(number) for number in rank.sends_ahead(hart)]
-    receivers = [post.dest for post in posts if post.partner is None]
+    receivers = [post.dest for post in posts if is_unreceived(post)]
     return Rest(hart, receivers) if receivers else None
 
 
@@ -259,25 +266,30 @@ def rest_of(hub, rank, comms):
     return rest_behind(hub, rank, comms) or rest_before(hub, rank)
 
 
+def others_ahead(cluster, rank):
+    """What a rank that rests waits for besides: what a WAITALL, before which it rests, asks the hub for in vain."""
+    return Tried(cluster, rank, 0).waits()
+
+
 def held_line(cluster, rank, rest, waits):
     """How a rank is held up: what it waits for, or where it rests and who is to receive. What a WAITALL, before which it rests, waits
     for in any case comes first."""
     if rest is None:
         return hart_line(cluster.image, rank, 0, waits, False)
-    things = Tried(cluster, rank.number, 0).waits() + [Wait(f"rank {to} to receive", [to]) for to in rest.receivers]
+    things = others_ahead(cluster, rank.number) + [Wait(f"rank {to} to receive", [to]) for to in rest.receivers]
     return f"rank {rank.number} hart 0 waits at {waiting_text(cluster.image, rest.hart, rank.memory, things, False)}\n"
 
 
 def told_of_need(cluster):
-    """What is told of the most ranks that are held up together, if one of them rests: nothing where none does. Each rank has one
-    hart."""
+    """What is told of the most ranks that are held up together, if one of them rests and waits for nothing else: nothing where none
+    does. Each rank has one hart."""
     rests = {rank.number: rest_of(cluster.hub, rank, cluster.comms) for rank in cluster.ranks}
     if not any(rests.values()):
         return b""
     waits, among = waits_of(cluster), set(rests)
     while free := {rank for rank in among if not is_held_up(cluster.ranks[rank], rests[rank], waits, among)}:
         among -= free
-    if not any(rests[rank] for rank in among):
+    if all(rests[rank] is None or others_ahead(cluster, rank) for rank in among):
         return b""
     lines = [held_line(cluster, cluster.ranks[rank], rests[rank], waits[rank, 0]) for rank in sorted(among)]
     return ("".join(lines) + f"needs buffering: ranks {' '.join(map(str, sorted(among)))}\n").encode()
