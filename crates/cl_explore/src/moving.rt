@@ -30,8 +30,8 @@ pub(crate) struct Visit {
     pub end: bool,
     /// The most ranks that are stuck together there, if a hart of theirs waits.
     pub stuck: Option<Vec<u8>>,
-    /// The most ranks that are held up together there, if one of them rests. They are looked for only where standard sends may
-    /// wait for their receives.
+    /// The most ranks that are held up together there, if one of them rests and waits for nothing else. They are looked for
+    /// only where standard sends may wait for their receives.
     pub need: Option<Vec<u8>>,
     /// The first rank of which a move led to a new node by more turns of its own than it was let take at once.
     pub long: Option<u8>,

@@ -10,7 +10,7 @@ use Rattle.cl_rank.specs.declared.ranks.Rank.{Rank as Running}
 use Rattle.cl_deeds.specs.Deeds.{Deed}
 use Rattle.cl_rank.specs.Turning.{DeskRule, Tells}
 use Rattle.cl_deeds.specs.Turns.{AllStopped, IsActive, all_stopped}
-use Rattle.cl_rank.specs.Views.{HasTurn, IsOver, TurnEnds, TurnLeaves, hub_deed}
+use Rattle.cl_rank.specs.Views.{HasTurn, IsHubTurn, IsOver, TurnEnds, TurnLeaves, hub_deed}
 
 -- a rank of which the code found that some hart isn't stopped
 pub some_runs : (rank : RankAlone) → false ≡ all_stopped rank → AllStopped rank → ⊥
@@ -57,3 +57,11 @@ module _ {D : Type 0} (gives : DeskRule D) (hart : ℕ) (old : Running) where
   call_ends channels request reply told stamp new desk left runs has own leaves same given =
       turn_ends channels _ new desk left (is_active old hart runs has) own leaves
       (subst (λ r. gives desk old.state.site.number hart old.state.clock request (Ok (r, stamp)) left) same given)
+
+-- a turn that was worked out behind its call, by a rank that stayed as it was
+pub worked_behind : {old same new : Running} {hart other : ℕ} (request : Request) (reply : Reply) (stamp : ℕ)
+    → same ≡ old → other ≡ hart → IsHubTurn other request reply stamp same new
+    → IsHubTurn hart request reply stamp old new
+worked_behind {old} {same} {new} {hart} {other} request reply stamp stays is told =
+    subst (λ (r : Running). IsHubTurn hart request reply stamp r new) stays
+    (subst (λ h. IsHubTurn h request reply stamp same new) is told)

@@ -7,7 +7,7 @@ use Rattle.mp_types.specs.declared.requests.Request.{Request}
 use Rattle.part_channel.specs.Channels.{ChannelView}
 use Rattle.cl_state.specs.Asked.{asked}
 use Rattle.cl_state.specs.Room.{rank_of}
-use Rattle.cl_state.specs.TurnRoom.{HasRoom, IsNext}
+use Rattle.cl_state.specs.TurnRoom.{HasRoom, IsNext, row_at}
 use Rattle.cl_state.specs.Told.{told}
 use Rattle.cl_state.specs.Rank.{Rank as RankAlone}
 use Rattle.cl_state.specs.declared.asking.Ask.{Ask}
@@ -62,6 +62,7 @@ pub record HasTurn (r : Rank) (hart : ℕ) : Type 0 where
 pub record MayTurn (r : Rank) (t : Turn) : Type 0 where
   pub has : HasTurn r t.hart
   pub next : IsNext r.state t.hart t.doing
+  pub row : t.row ≡ row_at r.state t.hart t.doing
   pub room : HasRoom r.state t.hart
 
 -- the turn of a hart asks the hub this, and where nothing is there yet only the clock moves

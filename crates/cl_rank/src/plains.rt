@@ -58,6 +58,9 @@ impl Rank {
         ensures budget { self.new.budget ≡ self.old.budget }
         ensures harts { vec_len self.new.state.harts ≡ vec_len self.old.state.harts }
     {
+        if self.is_at_other {
+            return 0;
+        }
         let taken = self.trace.len();
         let clock = self.state.clock;
         if taken >= self.budget || clock >= CLOCK_MAX || self.trace.reserve().is_err() {
@@ -65,6 +68,7 @@ impl Rank {
         }
         let most = most.min(self.budget - taken).min(CLOCK_MAX - clock);
         let done = step_plains(&mut self.state, hart, most);
+        self.is_at_other = done < most;
         if done > 0 {
             self.asked_box = None;
             self.roomy = None;

@@ -43,6 +43,8 @@ pub struct Rank {
     pub(crate) roomy: Option<u8>,
     /// What that hart asks in its next turn, if it is known.
     pub(crate) again: Option<Request>,
+    /// Whether the last plain turns ended at a turn that isn't plain, which is the next one: so that isn't tried as one again.
+    pub(crate) is_at_other: bool,
     ghost low: { state.clock < 2 ^ 62 },
     ghost within: { length trace.events ≤ budget },
     ghost stamped: { last_stamp 0 trace.events ≤ state.clock },
@@ -86,6 +88,7 @@ impl Rank {
             asked_box: None,
             roomy: None,
             again: None,
+            is_at_other: false,
         })
     }
 
@@ -112,6 +115,10 @@ impl Rank {
         }
         if self.trace.reserve().is_err() {
             return Err(self.why_stopped());
+        }
+        if self.is_at_other {
+            self.is_at_other = false;
+            return self.other_turn(rt, desk, hart, channels);
         }
         let stamp = self.state.clock + 1;
         if step_plain(&mut self.state, hart, stamp) {
@@ -161,6 +168,7 @@ impl Rank {
             asked_box: _,
             roomy: _,
             again: _,
+            is_at_other: _,
         } = self;
         (state, trace, sends, recvs)
     }

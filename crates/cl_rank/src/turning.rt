@@ -1,7 +1,7 @@
 //! What a turn does to a rank.
 
 ghost use Rattle.std.specs.Prelude.{◌≡◌, ◌<◌, ◌+◌, ◌^◌, ◌++◌, ◌∷◌, [], List, length, IfErr, IfOk, IfSome, Ok};
-ghost use Rattle.std.specs.Prelude.{None, Some, false, true};
+ghost use Rattle.std.specs.Prelude.{None, Some, false, true, vec_len};
 ghost use Rattle.mp_types.specs.declared.replies.Reply.{Reply};
 ghost use Rattle.mp_types.specs.declared.replies.Reply.TheVariants.{NotYet, Posted};
 ghost use Rattle.part_channel.specs.Channels.{ChannelView};
@@ -10,6 +10,7 @@ ghost use Rattle.cl_state.specs.declared.asking.Answer.TheVariants.{Alone, Reply
 ghost use Rattle.cl_state.specs.Asked.{asked};
 ghost use Rattle.cl_state.specs.Room.{rank_of};
 ghost use Rattle.cl_state.specs.Told.{told};
+ghost use Rattle.cl_state.specs.TurnRoom.{IsNext, row_at};
 ghost use Rattle.cl_rank.specs.Follows.{named_link as named_link_in, started_link};
 ghost use Rattle.cl_rank.specs.QuickReceives.{Fits, MayReceive};
 ghost use Rattle.cl_rank.specs.QuickSends.{MaySend};
@@ -29,7 +30,7 @@ use crate::ranks::Rank;
 use crate::stops::{Stop, stop_of};
 use cl_calls::{Call, Receiving};
 use cl_sides::{BoxId, begin, follow_receiver, follow_sender, make_ready, take, test};
-use cl_state::{Answer, Ask, Doing, RankState};
+use cl_state::{Answer, Ask, Doing, RankState, Row};
 use cl_trace::{Event, Kind, Trace};
 use mp_request::{OpenRequest, Requests, Transfer};
 use mp_types::{Reply, Request, Stamp};
@@ -50,11 +51,12 @@ pub(crate) fn all_stopped(state: &RankState) -> bool
     true
 }
 
-/// A hart's turn, as it was worked out.
+/// A hart's turn, as it was worked out: what it is, and what it does by the table of calls.
 #[derive(Clone, Copy, Drop)]
 pub(crate) struct Turn {
     pub(crate) hart: u8,
     pub(crate) doing: Doing,
+    pub(crate) row: Row,
 }
 
 /// Whether a hart makes its call anew.
@@ -284,35 +286,48 @@ impl Rank {
         let Ok(ask) = self.state.ask_again(hart, &doing, known) else {
             return Err(Stop::Memory);
         };
-        let Ok(()) = self.state.room_next(hart, &doing) else {
+        let Ok(row) = self.state.lay_out(hart, &doing) else {
             return Err(Stop::Memory);
         };
-        let turn = Turn { hart, doing };
+        let turn = Turn { hart, doing, row };
         match ask {
-            Ask::Hub(request) => return self.call_hub(rt, desk, turn, request),
-            Ask::Plain => self.go_alone(turn, Kind::Plain),
-            Ask::Local => self.go_alone(turn, Kind::Local),
-            Ask::Held => self.go_alone(turn, Kind::Held),
-            Ask::Idle => self.go_alone(turn, Kind::Idle),
+            Ask::Hub(request) => return self.call_hub(rt, desk, &turn, request),
+            Ask::Plain => self.go_alone(&turn, Kind::Plain),
+            Ask::Local => self.go_alone(&turn, Kind::Local),
+            Ask::Held => self.go_alone(&turn, Kind::Held),
+            Ask::Idle => self.go_alone(&turn, Kind::Idle),
             Ask::Ready { link, part, bytes } => {
-                self.make_ready(channels, turn, BoxId { link, part }, &bytes)
+                self.make_ready(channels, &turn, BoxId { link, part }, &bytes)
             }
-            Ask::Look { link, part } => self.look(channels, turn, BoxId { link, part }),
-            Ask::Freed { link, part } => self.test(channels, turn, BoxId { link, part }),
+            Ask::Look { link, part } => self.look(channels, &turn, BoxId { link, part }),
+            Ask::Freed { link, part } => self.test(channels, &turn, BoxId { link, part }),
         }
         Ok(())
     }
 
+    /// The turn of a hart whose room was made, worked out behind its call. The rank stays as it is.
+    fn work_out(&mut self, hart: u8) -> Turn
+        requires { hart < vec_len self.old.state.harts }
+        ensures hart { result.hart ≡ hart }
+        ensures next { IsNext self.old.state hart result.doing }
+        ensures row { result.row ≡ row_at self.old.state hart result.doing }
+        ensures same { self.new ≡ self.old }
+    {
+        let doing = self.state.next(hart);
+        let row = self.state.row_next(hart, &doing);
+        Turn { hart, doing, row }
+    }
+
     /// A turn that asks nobody.
-    fn go_alone(&mut self, turn: Turn, kind: Kind)
-        requires may { MayTurn self.old turn }
-        requires asked { AsksNobody (asked (rank_of self.old.state) turn.hart) kind }
-        ensures { IsQuietTurn turn.hart self.old self.new }
+    fn go_alone(&mut self, turn: &Turn, kind: Kind)
+        requires may { MayTurn self.old turn.now }
+        requires asked { AsksNobody (asked (rank_of self.old.state) turn.now.hart) kind }
+        ensures { IsQuietTurn turn.now.hart self.old self.new }
     {
         let (hart, stamp) = (turn.hart, self.state.clock + 1);
         let link = started(&self.state.requests, &turn.doing);
         self.state
-            .tell_next(hart, &turn.doing, &Answer::Alone, stamp);
+            .tell_row(hart, &turn.doing, &turn.row, &Answer::Alone, stamp);
         begin(&mut self.sends, &mut self.recvs, link);
         let noted = uncalled(hart, stamp, kind, None);
         note(&mut self.trace, &mut self.asked_box, &mut self.roomy, noted);
@@ -352,14 +367,14 @@ impl Rank {
         &mut self,
         rt: &R,
         desk: &mut D,
-        turn: Turn,
+        turn: &Turn,
         request: Request,
     ) -> Result<(), Stop>
-        requires may { MayTurn self.old turn }
-        requires asked { asked (rank_of self.old.state) turn.hart ≡ ask.Hub request }
+        requires may { MayTurn self.old turn.now }
+        requires asked { asked (rank_of self.old.state) turn.now.hart ≡ ask.Hub request }
         requires active { ¬ (AllStopped (rank_of self.old.state)) }
         ensures { (channels : List ChannelView) → IsOver self.old channels
-            → TurnEnds D.gives turn.hart channels self.old desk.old result self.new desk.new }
+            → TurnEnds D.gives turn.now.hart channels self.old desk.old result self.new desk.new }
     {
         let (request, reply, stamp) = self.ask_hub(rt, desk, turn.hart, request)?;
         match reply {
@@ -387,8 +402,8 @@ impl Rank {
         match reply {
             Reply::Posted { post, done } => self.tell_posted(hart, request, post, done, stamp),
             reply => {
-                let doing = self.state.next(hart);
-                self.tell_reply(Turn { hart, doing }, request, reply, stamp);
+                let turn = self.work_out(hart);
+                self.tell_reply(&turn, request, reply, stamp);
             }
         }
         Ok(())
@@ -432,8 +447,8 @@ impl Rank {
                 self.tell_waiting(hart, receiving, request, post, done, stamp)
             }
             reply => {
-                let doing = self.state.next(hart);
-                self.tell_reply(Turn { hart, doing }, request, reply, stamp);
+                let turn = self.work_out(hart);
+                self.tell_reply(&turn, request, reply, stamp);
             }
         }
         Ok(())
@@ -504,11 +519,11 @@ impl Rank {
 
     /// Tells the rank that nothing is there yet of what a call asked for. Where the hart polls, or made the call before
     /// and waits, only the clock moves, and what it asks again is kept.
-    fn put_off(&mut self, turn: Turn, request: Request, stamp: Stamp)
-        requires may { MayTurn self.old turn }
-        requires asked { asked (rank_of self.old.state) turn.hart ≡ ask.Hub request }
+    fn put_off(&mut self, turn: &Turn, request: Request, stamp: Stamp)
+        requires may { MayTurn self.old turn.now }
+        requires asked { asked (rank_of self.old.state) turn.now.hart ≡ ask.Hub request }
         requires stamp { (self.old.state.clock < stamp) × (stamp < 2 ^ 62) }
-        ensures { IsHubTurn turn.hart request NotYet stamp self.old self.new }
+        ensures { IsHubTurn turn.now.hart request NotYet stamp self.old self.new }
     {
         if repeats(&self.state.harts[turn.hart as usize], &turn.doing) {
             self.roomy = None;
@@ -537,8 +552,8 @@ impl Rank {
         match self.ask_hub(rt, desk, hart, request)? {
             (request, Reply::NotYet, stamp) => self.wait_on(hart, request, stamp),
             (request, reply, stamp) => {
-                let doing = self.state.next(hart);
-                self.tell_reply(Turn { hart, doing }, request, reply, stamp);
+                let turn = self.work_out(hart);
+                self.tell_reply(&turn, request, reply, stamp);
             }
         }
         Ok(())
@@ -558,17 +573,18 @@ impl Rank {
     }
 
     /// Tells the rank the reply to its request.
-    fn tell_reply(&mut self, turn: Turn, request: Request, reply: Reply, stamp: Stamp)
-        requires may { MayTurn self.old turn }
-        requires asked { asked (rank_of self.old.state) turn.hart ≡ ask.Hub request }
+    fn tell_reply(&mut self, turn: &Turn, request: Request, reply: Reply, stamp: Stamp)
+        requires may { MayTurn self.old turn.now }
+        requires asked { asked (rank_of self.old.state) turn.now.hart ≡ ask.Hub request }
         requires stamp { (self.old.state.clock < stamp) × (stamp < 2 ^ 62) }
-        ensures { IsHubTurn turn.hart request reply stamp self.old self.new }
+        ensures { IsHubTurn turn.now.hart request reply stamp self.old self.new }
     {
         let (hart, link) = (turn.hart, named_link(&request, &reply));
         let phases = &self.state.phases;
         let (sending, receiving) = (phases.sending(link), phases.receiving(link));
         let answer = Answer::Reply(reply);
-        self.state.tell_next(hart, &turn.doing, &answer, stamp);
+        self.state
+            .tell_row(hart, &turn.doing, &turn.row, &answer, stamp);
         let phases = &self.state.phases;
         follow_sender(&mut self.sends, link, sending, phases.sending(link));
         follow_receiver(&mut self.recvs, link, receiving, phases.receiving(link));
@@ -577,46 +593,48 @@ impl Rank {
     }
 
     /// Makes a partition ready, with the bytes that are to stand in its box.
-    fn make_ready(&mut self, channels: &[Channel], turn: Turn, place: BoxId, bytes: &Contents)
-        requires may { MayTurn self.old turn }
-        requires asked { asked (rank_of self.old.state) turn.hart ≡ ask.Ready place.link place.part bytes.now }
+    fn make_ready(&mut self, channels: &[Channel], turn: &Turn, place: BoxId, bytes: &Contents)
+        requires may { MayTurn self.old turn.now }
+        requires asked { asked (rank_of self.old.state) turn.now.hart ≡ ask.Ready place.link place.part bytes.now }
         requires own { IsOver self.old channels.now }
-        ensures { IsQuietTurn turn.hart self.old self.new }
+        ensures { IsQuietTurn turn.now.hart self.old self.new }
     {
         let size = self.state.phases.sending(place.link).size;
         let clock = self.state.clock;
         let bytes = &bytes.as_slice()[..size as usize];
         let stamp = make_ready(&mut self.sends, channels, place, bytes, clock);
         self.state
-            .tell_next(turn.hart, &turn.doing, &Answer::Alone, stamp);
+            .tell_row(turn.hart, &turn.doing, &turn.row, &Answer::Alone, stamp);
         let noted = uncalled(turn.hart, stamp, Kind::Ready, Some(place));
         note(&mut self.trace, &mut self.asked_box, &mut self.roomy, noted);
     }
 
     /// Looks whether a partition was taken.
-    fn test(&mut self, channels: &[Channel], turn: Turn, place: BoxId)
-        requires may { MayTurn self.old turn }
-        requires asked { asked (rank_of self.old.state) turn.hart ≡ ask.Freed place.link place.part }
+    fn test(&mut self, channels: &[Channel], turn: &Turn, place: BoxId)
+        requires may { MayTurn self.old turn.now }
+        requires asked { asked (rank_of self.old.state) turn.now.hart ≡ ask.Freed place.link place.part }
         requires own { IsOver self.old channels.now }
-        ensures { IsQuietTurn turn.hart self.old self.new }
+        ensures { IsQuietTurn turn.now.hart self.old self.new }
     {
         let progress = test(&mut self.sends, channels, place.link, self.state.clock);
         let (answer, kind, stamp) = told_of_test(progress);
-        self.state.tell_next(turn.hart, &turn.doing, &answer, stamp);
+        self.state
+            .tell_row(turn.hart, &turn.doing, &turn.row, &answer, stamp);
         let noted = uncalled(turn.hart, stamp, kind, Some(place));
         note(&mut self.trace, &mut self.asked_box, &mut self.roomy, noted);
     }
 
     /// Looks whether a box is ready, and takes what lies in it.
-    fn look(&mut self, channels: &[Channel], turn: Turn, place: BoxId)
-        requires may { MayTurn self.old turn }
-        requires asked { asked (rank_of self.old.state) turn.hart ≡ ask.Look place.link place.part }
+    fn look(&mut self, channels: &[Channel], turn: &Turn, place: BoxId)
+        requires may { MayTurn self.old turn.now }
+        requires asked { asked (rank_of self.old.state) turn.now.hart ≡ ask.Look place.link place.part }
         requires own { IsOver self.old channels.now }
-        ensures { IsQuietTurn turn.hart self.old self.new }
+        ensures { IsQuietTurn turn.now.hart self.old self.new }
     {
         let take = take(&mut self.recvs, channels, place, self.state.clock);
         let (answer, kind, stamp) = told_of_take(self.state.site.version, take);
-        self.state.tell_next(turn.hart, &turn.doing, &answer, stamp);
+        self.state
+            .tell_row(turn.hart, &turn.doing, &turn.row, &answer, stamp);
         let noted = uncalled(turn.hart, stamp, kind, Some(place));
         note(&mut self.trace, &mut self.asked_box, &mut self.roomy, noted);
     }

@@ -33,7 +33,7 @@ pub record SomeRests (ranks : List ℕ) (c : Cluster) : Type 0 where
   pub rests_there : RestsAmong ranks c r hart
   pub else_ready : IsElseReady c r rank hart
 
--- and one of them rests. Other ranks may still run
+-- and one of them rests, and waits for nothing else. Other ranks may still run
 pub record NeedBuffers (ranks : List ℕ) (c : Cluster) : Type 0 where
   pub held : AreHeldUp ranks c
   pub some : SomeRests ranks c

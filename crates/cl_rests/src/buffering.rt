@@ -101,7 +101,7 @@ fn posts_asked(ask: &Ask) -> &[u64]
 }
 
 /// Whether each other request of the WAITALL that the rank's first hart is about to make can complete, if it is about to make one.
-/// The only error is want of memory, for the posts of those.
+/// The only error is want of memory, for what the hart's next turn asks: the posts of a WAITALL, or the message of a SEND.
 fn is_else_ready(standing: &Standing, rank: u8) -> Result<bool, AllocError>
     ensures { IfOk result (TellsElseReady standing.now rank) }
 {
@@ -117,8 +117,8 @@ fn is_else_ready(standing: &Standing, rank: u8) -> Result<bool, AllocError>
     Ok(are_ready(&standing.cluster.hub, rank, posts_asked(&ask)))
 }
 
-/// Whether the rank rests until one of these receives, and is held up by nothing else. The only error is want of memory, for the
-/// posts of a WAITALL of the rank's.
+/// Whether the rank rests until one of these receives, and is held up by nothing else. The only error is want of memory, for
+/// what the rank's next turn asks.
 fn may_go_on_beside(among: &[u8], standing: &Standing, rank: u8) -> Result<bool, AllocError>
     ensures { IfOk result (TellsMayGoOn among.now standing.now rank) }
 {

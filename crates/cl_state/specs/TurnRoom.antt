@@ -11,6 +11,8 @@ use Rattle.cl_state.specs.Writes.{IsEnough, writes_in}
 use Rattle.cl_state.specs.declared.state.RankState.{RankState}
 use Rattle.cl_state.specs.declared.writes.Range.{Range}
 use Rattle.cl_state.specs.Room.{rank_of}
+use Rattle.cl_state.specs.Table.{row_in}
+use Rattle.cl_state.specs.declared.row.Row.{Row}
 
 -- how many elements the list has that a question carries. The list takes memory for them, and for nothing else
 abbrev pub carried : Ask → ℕ
@@ -21,6 +23,10 @@ carried _ = 0
 abbrev pub writes_of : RankState → ℕ → List Range
 writes_of s hart =
     let part = part_of (rank_of s) hart in writes_in s.site hart (doing s.site part) part
+
+-- what such a turn of a hart does
+abbrev pub row_at : RankState → ℕ → Doing → Row
+row_at s hart d = row_in s.site hart s.memory s.requests s.phases d
 
 -- the bytes that the hart's turn puts behind the output lie ready, and the output has room for them
 abbrev pub HasRoomBehind : RankState → ℕ → Type 0

@@ -9,6 +9,7 @@ ghost use Rattle.cl_state.specs.Right.{growth_of};
 ghost use Rattle.cl_state.specs.Told.{told};
 
 use crate::asking::{Answer, Ask, Doing};
+use crate::row::Row;
 use crate::telling::{Common, News, tell_hart};
 use crate::turn::Turn;
 use cl_calls::{Call, Site, Standing};
@@ -50,7 +51,7 @@ pub struct RankState {
 impl RankState {
     ghost use Rattle.std.specs.Prelude.{[]};
     ghost use Rattle.cl_state.specs.Room.{rank_of};
-    ghost use Rattle.cl_state.specs.TurnRoom.{HasRoom, HasRoomBehind, IsNext, IsStanding, writes_of};
+    ghost use Rattle.cl_state.specs.TurnRoom.{HasRoom, HasRoomBehind, IsNext, IsStanding, row_at, writes_of};
     ghost use Rattle.cl_state.specs.Writes.{missing_for};
 
     /// A rank with these parts, with no output, at clock 0.
@@ -164,11 +165,13 @@ impl RankState {
         }
     }
 
-    /// How many pages that the hart's turn may write aren't there, summed over its ranges. The rank stays as it is.
-    fn missing_pages(&mut self, hart: u8, doing: &Doing) -> usize
+    /// The row of the hart's turn, and how many pages that it may write aren't there, summed over its ranges. The rank stays
+    /// as it is.
+    fn row_and_missing(&mut self, hart: u8, doing: &Doing) -> (Row, usize)
         requires next { IsNext self.old hart doing.now }
         requires room { HasRoomBehind self.old hart }
-        ensures missing { result ≡ missing_for self.old.memory.pages (writes_of self.old hart) }
+        ensures row { result.0 ≡ row_at self.old hart doing.now }
+        ensures missing { result.1 ≡ missing_for self.old.memory.pages (writes_of self.old hart) }
         ensures same { self.new ≡ self.old }
     {
         let mut at = self.harts[hart as usize];
@@ -183,7 +186,28 @@ impl RankState {
             phases: &mut self.phases,
             out: &mut self.out,
         };
-        turn.missing_pages(doing)
+        turn.row_and_missing(doing)
+    }
+
+    /// What a turn does that was worked out: its row of the table of calls. The rank stays as it is.
+    pub fn row_next(&mut self, hart: u8, doing: &Doing) -> Row
+        requires next { IsNext self.old hart doing.now }
+        ensures row { result ≡ row_at self.old hart doing.now }
+        ensures same { self.new ≡ self.old }
+    {
+        let mut at = self.harts[hart as usize];
+        let turn = Turn {
+            site: &self.site,
+            number: hart,
+            fresh: self.fresh.as_slice(),
+            hart: &mut at,
+            memory: &mut self.memory,
+            spares: &mut self.spares,
+            requests: &mut self.requests,
+            phases: &mut self.phases,
+            out: &mut self.out,
+        };
+        turn.row(doing)
     }
 
     /// Makes all growths of the hart's next turn, and spare pages for what it may write where none are. The rank stays
@@ -217,9 +241,28 @@ impl RankState {
         ensures kept { OnErr result (self.new.spares ≡ self.old.spares) }
         ensures next { IsNext self.new hart doing.now }
     {
+        let _ = self.lay_out(hart, doing)?;
+        Ok(())
+    }
+
+    /// The same, and gives the turn's row of the table of calls, for `tell_row`.
+    pub fn lay_out(&mut self, hart: u8, doing: &Doing) -> Result<Row, AllocError>
+        requires { IsNext self.old hart doing.now }
+        ensures row { IfOk result (λ row. row ≡ row_at self.new hart doing.now) }
+        ensures same { rank_of self.new ≡ rank_of self.old }
+        ensures harts { vec_len self.new.harts ≡ vec_len self.old.harts }
+        ensures room { OnOk result (HasRoom self.new hart) }
+        ensures sure { growth_of doing.now ≡ 0
+            → missing_for self.old.memory.pages (writes_of self.old hart) ≡ 0 → IsOk result }
+        ensures spares { OnOk result (self.new.spares
+            ≡ max self.old.spares (missing_for self.old.memory.pages (writes_of self.old hart))) }
+        ensures kept { OnErr result (self.new.spares ≡ self.old.spares) }
+        ensures next { IsNext self.new hart doing.now }
+    {
         self.room_behind(hart, doing)?;
-        let missing = self.missing_pages(hart, doing);
-        self.spares.make_up_to(missing)
+        let (row, missing) = self.row_and_missing(hart, doing);
+        self.spares.make_up_to(missing)?;
+        Ok(row)
     }
 
     /// Makes the bytes that the turn puts behind the output, and room for them there.
@@ -258,10 +301,22 @@ impl RankState {
     }
 
     /// The same of a turn that was worked out.
-    #[tactic(auto, unfolding(crate::specs::Told::told))]
     pub fn tell_next(&mut self, hart: u8, doing: &Doing, answer: &Answer, stamp: Stamp)
         requires next { IsNext self.old hart doing.now }
         requires room { HasRoom self.old hart }
+        ensures told { rank_of self.new ≡ told (rank_of self.old) hart answer.now stamp }
+        ensures harts { vec_len self.new.harts ≡ vec_len self.old.harts }
+    {
+        let row = self.row_next(hart, doing);
+        self.tell_row(hart, doing, &row, answer, stamp)
+    }
+
+    /// The same where the turn's row is known.
+    #[tactic(auto, unfolding(crate::specs::Told::told))]
+    pub fn tell_row(&mut self, hart: u8, doing: &Doing, row: &Row, answer: &Answer, stamp: Stamp)
+        requires next { IsNext self.old hart doing.now }
+        requires room { HasRoom self.old hart }
+        requires row { row.now ≡ row_at self.old hart doing.now }
         ensures told { rank_of self.new ≡ told (rank_of self.old) hart answer.now stamp }
         ensures harts { vec_len self.new.harts ≡ vec_len self.old.harts }
     {
@@ -270,6 +325,7 @@ impl RankState {
             number: hart,
             fresh: self.fresh.as_slice(),
             doing,
+            row,
             answer,
         };
         let mut common = Common {

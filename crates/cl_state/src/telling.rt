@@ -5,7 +5,8 @@ ghost use Rattle.cl_state.specs.Right.{IsChecked, IsRunning, output_of};
 ghost use Rattle.cl_state.specs.Told.{done, replied, told_in, told_row, visited};
 ghost use Rattle.cl_state.specs.Turn.{Becomes, HasPages, IsAble, IsReady, IsRow, IsVisitable, IsWantable};
 ghost use Rattle.cl_state.specs.Turn.{KeepsPlaces};
-ghost use Rattle.cl_state.specs.Turn.{part_in, part_with, told_by};
+ghost use Rattle.cl_state.specs.Turn.{part_in, part_with, row_for, told_by};
+ghost use Rattle.cl_state.specs.Table.{row_in};
 ghost use Rattle.cl_state.specs.Writes.{IsEnough, writes_at_once, writes_by, writes_in, writes_on_box, writes_on_reply};
 
 use crate::asking::{Answer, Doing};
@@ -135,12 +136,12 @@ impl<'a> Turn<'a> {
     }
 
     /// What a row does with the answer. NotYet and a code are told alike to all calls.
-    fn answer(&mut self, row: Row, answer: &Answer)
-        requires row { IsRow self.old row }
-        requires pages { HasPages self.old (writes_by (part_in self.old) row) }
-        ensures { Becomes self.old self.new (told_row self.old.site.now row answer.now (part_in self.old)) }
+    fn answer(&mut self, row: &Row, answer: &Answer)
+        requires row { IsRow self.old row.now }
+        requires pages { HasPages self.old (writes_by (part_in self.old) row.now) }
+        ensures { Becomes self.old self.new (told_row self.old.site.now row.now answer.now (part_in self.old)) }
     {
-        match row {
+        match *row {
             Row::AtOnce(outcome) => self.act(outcome),
             Row::OnReply(manner, wanted) => match answer {
                 Answer::Reply(Reply::NotYet) => self.not_yet(manner),
@@ -152,28 +153,29 @@ impl<'a> Turn<'a> {
         }
     }
 
-    /// The turn is answered what it asked.
+    /// The turn, which has this row, is answered what it asked.
     #[tactic(auto, using(crate::proofs::Ready::row_of_ready))]
-    fn finish(&mut self, doing: &Doing, answer: &Answer)
-        requires ready { IsReady self.old doing.now }
+    fn finish(&mut self, _doing: &Doing, row: &Row, answer: &Answer)
+        requires ready { IsReady self.old _doing.now }
+        requires row { row.now ≡ row_for self.old _doing.now }
         requires pages { HasPages self.old
-            (writes_in self.old.site.now self.old.number doing.now (part_in self.old)) }
+            (writes_in self.old.site.now self.old.number _doing.now (part_in self.old)) }
         ensures { Becomes self.old self.new
-            (told_in self.old.site.now self.old.number doing.now answer.now (part_in self.old)) }
+            (told_in self.old.site.now self.old.number _doing.now answer.now (part_in self.old)) }
     {
-        let row = self.row(doing);
         self.answer(row, answer);
     }
 }
 
 /// What a hart is told: its rank and number, the bytes that it
-/// puts behind the output, what its turn is, and the answer.
+/// puts behind the output, what its turn is, that one's row of the table, and the answer.
 #[derive(Drop)]
 pub(crate) struct News<'a> {
     pub(crate) site: &'a Site,
     pub(crate) number: u8,
     pub(crate) fresh: &'a [u8],
     pub(crate) doing: &'a Doing,
+    pub(crate) row: &'a Row,
     pub(crate) answer: &'a Answer,
 }
 
@@ -192,6 +194,8 @@ pub(crate) fn tell_hart(news: &News, hart: &mut Hart, common: &mut Common)
     requires running { IsRunning news.now.doing.now hart.old }
     requires checked { IsChecked news.now.site.now common.old.memory.now common.old.requests.now common.old.phases.now
         news.now.doing.now }
+    requires row { news.now.row.now ≡ row_in news.now.site.now news.now.number common.old.memory.now
+        common.old.requests.now common.old.phases.now news.now.doing.now }
     requires fresh { news.now.fresh.now ≡ output_of common.old.memory.now news.now.doing.now }
     requires room { vec_len common.old.out.now + length news.now.fresh.now ≤ vec_capacity common.old.out.now }
     requires pages { IsEnough common.old.memory.now.pages common.old.spares.now
@@ -210,5 +214,5 @@ pub(crate) fn tell_hart(news: &News, hart: &mut Hart, common: &mut Common)
         phases: &mut *common.phases,
         out: &mut *common.out,
     };
-    turn.finish(news.doing, news.answer);
+    turn.finish(news.doing, news.row, news.answer);
 }

@@ -1,7 +1,7 @@
 //! How many pages that a turn may write aren't there.
 
 ghost use Rattle.std.specs.Prelude.{◌≡◌, ◌≤◌, ◌*◌, ◌∷◌, [], length};
-ghost use Rattle.cl_state.specs.Turn.{HasArray, IsAble, IsReady, IsRow, IsWantable, part_in};
+ghost use Rattle.cl_state.specs.Turn.{HasArray, IsAble, IsReady, IsRow, IsWantable, part_in, row_for};
 ghost use Rattle.cl_state.specs.Writes.{box_into, buffer_of, message_into, missing_for, several_into, statuses_from};
 ghost use Rattle.cl_state.specs.Writes.{writes_at_once, writes_by, writes_in, writes_on_box, writes_on_reply};
 ghost use Rattle.rv_memory.specs.MorePages.{missing_pages};
@@ -179,15 +179,16 @@ impl<'a> Turn<'a> {
         }
     }
 
-    /// How many pages that the turn may write aren't there, summed over its ranges.
+    /// The turn's row of the table, and how many pages that it may write aren't there, summed over its ranges.
     #[tactic(auto, using(crate::proofs::Ready::row_of_ready))]
-    pub(crate) fn missing_pages(&self, doing: &Doing) -> usize
+    pub(crate) fn row_and_missing(&self, doing: &Doing) -> (Row, usize)
         requires { IsReady self.now doing.now }
-        ensures { result
+        ensures row { result.0 ≡ row_for self.now doing.now }
+        ensures missing { result.1
             ≡ missing_for self.now.memory.now.pages
             (writes_in self.now.site.now self.now.number doing.now (part_in self.now)) }
     {
         let row = self.row(doing);
-        self.missing_by(&row)
+        (row, self.missing_by(&row))
     }
 }

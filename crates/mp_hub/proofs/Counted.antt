@@ -1,13 +1,16 @@
 -- A reply brings no more messages than its request may bring.
-use Rattle.std.proofs.Common.{◌≡◌, ◌≤◌, ℕ, true, Option, Some, None, refl, ap, arith}
+use Rattle.std.proofs.Common.{◌≡◌, ◌≤◌, ℕ, [], ◌∷◌, true, Option, Some, None, refl, sym, ap, subst, arith, IfOk, Result, Ok, Err}
 use Rattle.mp_types.specs.declared.messages.Message.{Message}
 use Rattle.mp_types.specs.declared.replies.Reply.{Reply}
 use Rattle.mp_types.specs.declared.replies.Reply.TheVariants as reply
 use Rattle.mp_types.specs.declared.requests.Request.{Request}
-use Rattle.mp_types.specs.Carried.{carried_by_reply}
+use Rattle.mp_types.specs.Carried.{IsInPlace}
 use Rattle.mp_match.specs.Board.{Board, collect}
 use Rattle.mp_hub.specs.Hub.{HubView, outcome, message_or, hub_after}
 use Rattle.mp_hub.specs.Laws.{most_messages, message_count, CountLaw}
+use Rattle.mp_hub.specs.declared.state.CallFault.{CallFault}
+use Rattle.mp_hub.specs.InnerOutcomes.{IsOutcome}
+use Rattle.mp_hub.specs.Twins.{HasTwin}
 use Rattle.mp_hub.proofs.Outcomes.{is_plain, Comes, is_nothing, is_full, is_sent, is_posted, is_got, is_gathered, comes}
 use Rattle.mp_hub.proofs.SentKept.{all_length}
 
@@ -44,24 +47,31 @@ counted h rank q r b (is_gathered numbers asked f e) =
     let most = ap most_messages asked in
     omega (arith, n, even, most)
 
--- a reply with no place for a message carries nothing
-bare : (r : Reply) → message_count r ≡ 0 → carried_by_reply r ≡ 0
-bare (reply.Code c) n = refl
-bare (reply.Posted number done) n = refl
-bare (reply.Got m) n = absurd (omega (arith, n))
-bare reply.NotYet n = refl
-bare reply.Done n = refl
-bare (reply.Seen e) n = refl
-bare (reply.Held number e) n = refl
-bare (reply.AllGot gots) n = n
-bare (reply.Link k) n = refl
-bare (reply.Cut parts size) n = refl
+-- a reply with no place for a message stands in place
+in_place : (r : Reply) → message_count r ≡ 0 → IsInPlace r
+in_place (reply.Code c) n = tt
+in_place (reply.Posted number done) n = tt
+in_place (reply.Got m) n = absurd (omega (arith, n))
+in_place reply.NotYet n = tt
+in_place reply.Done n = tt
+in_place (reply.Seen e) n = tt
+in_place (reply.Held number e) n = tt
+in_place (reply.AllGot []) n = refl
+in_place (reply.AllGot (got ∷ gots)) n = absurd (omega (arith, n))
+in_place (reply.Link k) n = tt
+in_place (reply.Cut parts size) n = tt
 
--- the reply to a request that may bring no message carries nothing
-pub carries_nothing : (h : HubView) (rank : ℕ) (q : Request) → most_messages q ≡ 0
-    → carried_by_reply (outcome h rank q).0 ≡ 0
-carries_nothing h rank q none =
-    bare (outcome h rank q).0 (let few = counted h rank q _ _ (comes h rank q) in omega (arith, few, none))
+-- and so does the reply to a request that may bring no message
+pub stands_in_place : (h : HubView) (rank : ℕ) (q : Request) → most_messages q ≡ 0 → IsInPlace (outcome h rank q).0
+stands_in_place h rank q none =
+    in_place (outcome h rank q).0 (let few = counted h rank q _ _ (comes h rank q) in omega (arith, few, none))
+
+-- a reply that stands in place needs no twin
+pub needs_no_twin : (o : Reply × HubView) (new : HubView) (r : Result Reply CallFault) (twin : Option Reply) → twin ≡ None
+    → IsInPlace o.0 → IfOk r (λ x. IsOutcome o x new) → IfOk r (λ x. HasTwin x twin)
+needs_no_twin o new (Err f) twin none place g = tt
+needs_no_twin o new (Ok x) twin none place g =
+    subst (λ (t : Option Reply). HasTwin x t) (sym none) (subst (λ (y : Reply). IsInPlace y) (sym g.0) place)
 
 pub count_law : CountLaw
 count_law links calls rank q = counted (hub_after links calls) rank q _ _ (comes (hub_after links calls) rank q)

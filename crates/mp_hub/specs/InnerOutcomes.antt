@@ -6,7 +6,3 @@ use Rattle.mp_hub.specs.Hub.{HubView}
 -- the outcome is this reply and this hub
 abbrev pub IsOutcome : Reply × HubView → Reply → HubView → Type 0
 IsOutcome o r h = (r ≡ o.0) × (h ≡ o.1)
-
--- the outcome is this reply, given twice, and this hub
-abbrev pub IsOutcomeTwice : Reply × HubView → Reply × Reply → HubView → Type 0
-IsOutcomeTwice o told h = (told ≡ (o.0, o.0)) × (h ≡ o.1)

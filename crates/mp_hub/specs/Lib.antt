@@ -4,7 +4,7 @@ pub mod Held
 pub mod Building
 pub mod Laws
 pub mod Made
-pub mod Twice
+pub mod Twins
 pub mod Transfers
 pub mod Histories
 pub mod Posts

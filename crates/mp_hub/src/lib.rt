@@ -4,4 +4,4 @@
 pub mod laws;
 mod state;
 
-pub use state::{CallFault, HubParts, HubState};
+pub use state::{CallFault, HubParts, HubState, twin_of};

@@ -4,6 +4,7 @@ pub mod Order
 pub mod Waiting
 pub mod Queues
 pub mod Queued
+pub mod Twins
 pub mod Matches
 pub mod Board
 pub mod Bodies

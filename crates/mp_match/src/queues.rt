@@ -13,6 +13,7 @@ ghost use Rattle.mp_match.specs.Board.{probed, receive_posted, send_posted, with
 ghost use Rattle.mp_match.specs.InnerLive.{IsPast, message_of, owner_in};
 ghost use Rattle.mp_match.specs.FreePosts.{free_post};
 ghost use Rattle.mp_types.specs.Carried.{carried_by_message};
+ghost use Rattle.mp_match.specs.Twins.{IsTwinOf};
 
 mod building;
 mod live_posts;
@@ -338,82 +339,68 @@ impl Queues {
         self.collect_from(partner)
     }
 
-    /// Takes out the message of a receive or a claim as `collect` does, and gives it twice: as it lay here, and
-    /// once more. The two share its bytes.
+    /// Takes out the message of a receive or a claim as `collect` does. Where it has more than 16 bytes, `twin` is that
+    /// message once more, which shares its bytes, and else None: such a message can be copied at any time.
     ///
-    /// Refused for memory alone, and never where there is no message or one of no bytes; after a refusal all is as it
-    /// was.
-    pub fn collect_twice(
+    /// Refused for memory alone, and never where there is no message or one of at most 16 bytes; after a refusal all is
+    /// as it was.
+    pub fn collect_with(
         &mut self,
         alloc: Global,
         post: u64,
-    ) -> Result<(Option<Message>, Option<Message>), AllocError>
-        ensures messages { IfOk result (λ got. got ≡ ((collect self.old post).0, (collect self.old post).0)) }
+        twin: &mut Option<Message>,
+    ) -> Result<Option<Message>, AllocError>
+        ensures message { IfOk result (λ message. message ≡ (collect self.old post).0) }
         ensures after { OnOk result (self.new ≡ (collect self.old post).1) }
-        ensures free { carried_by_message (collect self.old post).0 ≡ 0 → IsOk result }
+        ensures twin { OnOk result (IsTwinOf (collect self.old post).0 twin.new) }
+        ensures free { carried_by_message (collect self.old post).0 ≤ 16 → IsOk result }
         ensures err { OnErr result (self.new ≡ self.old) }
     {
         let partner = self.kept_partner(post);
-        let copy = self.copy_from(alloc, partner)?;
-        Ok((self.collect_from(partner), copy))
+        *twin = self.twin_from(alloc, partner)?;
+        Ok(self.collect_from(partner))
     }
 
     /// A copy of the message that `collect` would take out.
     ///
-    /// Refused for memory alone, and never where there is no message or one of no bytes.
+    /// Refused for memory alone, and never where there is no message or one of at most 16 bytes.
     pub fn copy_of(&self, alloc: Global, post: u64) -> Result<Option<Message>, AllocError>
         ensures copy { IfOk result (λ copy. copy ≡ (collect self.now post).0) }
-        ensures free { carried_by_message (collect self.now post).0 ≡ 0 → IsOk result }
+        ensures free { carried_by_message (collect self.now post).0 ≤ 16 → IsOk result }
     {
         self.copy_from(alloc, self.kept_partner(post))
     }
 
-    /// Posts a receive and takes out its message at once, where there is one, and gives it twice as `collect_twice`
-    /// does. After a refusal for memory all is as it was, and nothing was posted.
+    /// Posts a receive and takes out its message at once, where there is one; `twin` is as `collect_with` has it. After a
+    /// refusal for memory all is as it was, and nothing was posted.
     #[inline(always)]
-    pub fn receive_twice(
+    pub fn receive_with(
         &mut self,
         alloc: Global,
         selection: Selection,
-    ) -> Result<(Option<Message>, Option<Message>), AllocError>
+        twin: &mut Option<Message>,
+    ) -> Result<Option<Message>, AllocError>
         requires { length self.old.lines < 2 ^ 64 - 1 }
-        ensures messages { let got = (collect (receive_posted self.old selection) (length self.old.lines + 1)).0 in
-            IfOk result (λ told. told ≡ (got, got)) }
+        ensures message { IfOk result (λ message.
+            message ≡ (collect (receive_posted self.old selection) (length self.old.lines + 1)).0) }
         ensures after { OnOk result
             (self.new ≡ (collect (receive_posted self.old selection) (length self.old.lines + 1)).1) }
+        ensures twin { IfOk result (λ message. IsTwinOf message twin.new) }
         ensures err { OnErr result (self.new ≡ self.old) }
     {
         let found = self.find(Post::Receive(selection));
+        *twin = self.twin_from(alloc, found.partner)?;
         match found.partner {
             None => {
                 self.add_to(found, Post::Receive(selection), None)?;
-                Ok((None, None))
+                Ok(None)
             }
-            Some(place) => self.receive_at(alloc, selection, place),
+            Some(place) => self.receive_once(selection, place),
         }
     }
 
     // Posts a receive that finds the send at the place, and takes its message out. Both are over at once: so the receive is
     // entered nowhere, and all that was kept of the send is let go.
-    #[inline(always)]
-    fn receive_at(
-        &mut self,
-        alloc: Global,
-        selection: Selection,
-        place: u64,
-    ) -> Result<(Option<Message>, Option<Message>), AllocError>
-        requires few { length self.old.lines < 2 ^ 64 - 1 }
-        requires partner { Some place ≡ partner_for self.old.lines (Post.Receive selection) }
-        ensures messages { IfOk result (λ told. told ≡ (message_at self.old place, message_at self.old place)) }
-        ensures after { OnOk result (self.new ≡ without (receive_posted self.old selection) place) }
-        ensures err { OnErr result (self.new ≡ self.old) }
-    {
-        let copy = self.copy_at(alloc, place)?;
-        let message = self.receive_once(selection, place)?;
-        Ok((message, copy))
-    }
-
-    // Posts a receive that finds the send at the place, and takes its message out.
     #[inline(always)]
     fn receive_once(
         &mut self,
@@ -447,7 +434,7 @@ impl Queues {
     // The message of the send at the place once more, if any.
     fn copy_from(&self, alloc: Global, place: Option<u64>) -> Result<Option<Message>, AllocError>
         ensures copy { IfOk result (λ copy. copy ≡ (collect_from self.now place).0) }
-        ensures free { carried_by_message (collect_from self.now place).0 ≡ 0 → IsOk result }
+        ensures free { carried_by_message (collect_from self.now place).0 ≤ 16 → IsOk result }
     {
         match place {
             None => Ok(None),
@@ -455,13 +442,31 @@ impl Queues {
         }
     }
 
-    #[inline(always)]
     fn copy_at(&self, alloc: Global, place: u64) -> Result<Option<Message>, AllocError>
         ensures copy { IfOk result (λ copy. copy ≡ message_at self.now place) }
-        ensures free { carried_by_message (message_at self.now place) ≡ 0 → IsOk result }
+        ensures free { carried_by_message (message_at self.now place) ≤ 16 → IsOk result }
     {
-        let copy = self.table.message_copy(alloc, place)?;
-        Ok(copy)
+        self.table.message_copy(alloc, place)
+    }
+
+    // The same if it doesn't stand in place.
+    #[inline(always)]
+    fn twin_from(&self, alloc: Global, place: Option<u64>) -> Result<Option<Message>, AllocError>
+        ensures twin { IfOk result (λ twin. IsTwinOf (collect_from self.now place).0 twin) }
+        ensures free { carried_by_message (collect_from self.now place).0 ≤ 16 → IsOk result }
+    {
+        match place {
+            None => Ok(None),
+            Some(place) => self.twin_at(alloc, place),
+        }
+    }
+
+    #[inline(always)]
+    fn twin_at(&self, alloc: Global, place: u64) -> Result<Option<Message>, AllocError>
+        ensures twin { IfOk result (λ twin. IsTwinOf (message_at self.now place) twin) }
+        ensures free { carried_by_message (message_at self.now place) ≤ 16 → IsOk result }
+    {
+        self.table.twin(alloc, place)
     }
 
     // Takes out the message of the send at the place, if any.

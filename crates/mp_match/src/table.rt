@@ -1,17 +1,18 @@
 //! The posts that aren't over, by their places.
 
-ghost use Rattle.std.specs.Prelude.{◌≡◌, ℕ, is_some, None, Some, IfOk, IsOk, OnErr, OnOk};
+ghost use Rattle.std.specs.Prelude.{◌≡◌, ◌≤◌, ℕ, false, is_some, None, Some, IfOk, IsOk, OnErr, OnOk};
 ghost use Rattle.std.specs.Option.{option_copied};
 ghost use Rattle.mp_match.specs.Live.{kept, paired};
 ghost use Rattle.mp_match.specs.InnerLive.{body_in, emptied, has_taken, is_partner, line_in};
 ghost use Rattle.mp_match.specs.Live.{post_in};
 ghost use Rattle.mp_match.specs.InnerLive.{message_of, set_at, spent_by};
+ghost use Rattle.mp_match.specs.Twins.{IsTwinOf};
 ghost use Rattle.mp_types.specs.Carried.{carried_by_message};
 ghost use Rattle.mp_match.specs.Board.{envelope_in};
 
 use crate::live::Live;
 use crate::posts::{Line, Post};
-use mp_types::{Bytes, Envelope, Message};
+use mp_types::{Bytes, Envelope, Message, SHORT_MAX};
 use std::alloc::{AllocError, Global};
 use std::collections::HashMap;
 
@@ -24,10 +25,9 @@ fn is_partner(partner: Option<u64>, place: u64) -> bool
     }
 }
 
-#[inline(always)]
 fn message_copy(alloc: Global, live: &Live) -> Result<Option<Message>, AllocError>
     ensures copy { IfOk result (λ copy. copy ≡ message_of (Some live.now)) }
-    ensures free { carried_by_message (message_of (Some live.now)) ≡ 0 → IsOk result }
+    ensures free { carried_by_message (message_of (Some live.now)) ≤ 16 → IsOk result }
 {
     match (live.line.post, &live.body) {
         (Post::Send(sent), Some(bytes)) => {
@@ -38,6 +38,17 @@ fn message_copy(alloc: Global, live: &Live) -> Result<Option<Message>, AllocErro
             }))
         }
         _ => Ok(None),
+    }
+}
+
+// Whether a post has a message that doesn't stand in place.
+#[inline(always)]
+fn is_long(live: &Live) -> bool
+    ensures { result ≡ false → carried_by_message (message_of (Some live.now)) ≤ 16 }
+{
+    match &live.body {
+        None => false,
+        Some(bytes) => usize::from(bytes.count()) > SHORT_MAX,
     }
 }
 
@@ -188,15 +199,28 @@ impl Table {
         }
     }
 
-    /// A copy of the message at the place. Refused for memory alone, and never where there is none or one of no bytes.
-    #[inline(always)]
+    /// A copy of the message at the place. Refused for memory alone, and never where there is none or one of at most 16
+    /// bytes.
     pub fn message_copy(&self, alloc: Global, place: u64) -> Result<Option<Message>, AllocError>
         ensures copy { IfOk result (λ copy. copy ≡ message_of (kept self.now.map place)) }
-        ensures free { carried_by_message (message_of (kept self.now.map place)) ≡ 0 → IsOk result }
+        ensures free { carried_by_message (message_of (kept self.now.map place)) ≤ 16 → IsOk result }
     {
         match self.at(place) {
             None => Ok(None),
             Some(live) => message_copy(alloc, live),
+        }
+    }
+
+    /// A copy of the message at the place, if it doesn't stand in place: one of at most 16 bytes can be copied at any time.
+    /// Refused for memory alone, and never where there is none or one of at most 16 bytes.
+    #[inline(always)]
+    pub fn twin(&self, alloc: Global, place: u64) -> Result<Option<Message>, AllocError>
+        ensures twin { IfOk result (λ twin. IsTwinOf (message_of (kept self.now.map place)) twin) }
+        ensures free { carried_by_message (message_of (kept self.now.map place)) ≤ 16 → IsOk result }
+    {
+        match self.at(place) {
+            Some(live) if is_long(live) => message_copy(alloc, live),
+            _ => Ok(None),
         }
     }
 }

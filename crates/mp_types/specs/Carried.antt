@@ -1,5 +1,5 @@
 -- The lists that requests and replies carry. A copy takes memory for the elements, and for nothing else.
-use Rattle.std.specs.Prelude.{ℕ, length, Option, Some, None}
+use Rattle.std.specs.Prelude.{ℕ, ◌≡◌, ◌≤◌, [], length, Option, Some, None}
 use Rattle.mp_types.specs.declared.messages.Message.{Message}
 use Rattle.mp_types.specs.declared.requests.Request.{Request}
 use Rattle.mp_types.specs.declared.requests.Request.TheVariants.{Send, All}
@@ -17,6 +17,12 @@ abbrev pub carried_by_reply : Reply → ℕ
 carried_by_reply (Got message) = length message.bytes
 carried_by_reply (AllGot gots) = length gots
 carried_by_reply _ = 0
+
+-- a reply all of which stands in place: its message has at most 16 bytes, and its list is that of no posts
+abbrev pub IsInPlace : Reply → Type 0
+IsInPlace (Got message) = length message.bytes ≤ 16
+IsInPlace (AllGot gots) = gots ≡ []
+IsInPlace _ = Unit {0}
 
 -- how many bytes a message has, where there is one
 abbrev pub carried_by_message : Option Message → ℕ

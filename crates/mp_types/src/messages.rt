@@ -1,6 +1,6 @@
 //! Messages, and what is told of them.
 
-ghost use Rattle.std.specs.Prelude.{◌≡◌, [], IfOk, IsOk};
+ghost use Rattle.std.specs.Prelude.{◌≡◌, ◌≤◌, [], length, IfOk, IsOk};
 
 use crate::lists::Bytes;
 use std::alloc::{AllocError, Global};
@@ -31,11 +31,12 @@ pub struct Message {
 }
 
 impl Message {
-    /// The same message once more: the two share its bytes, which takes no memory. One of no bytes is never refused.
+    /// The same message once more: the two share its bytes, which takes no memory. One of at most 16 bytes is never
+    /// refused.
     #[inline(always)]
     pub fn try_copy(&self, alloc: Global) -> Result<Message, AllocError>
         ensures copy { IfOk result (λ copy. copy ≡ self.now) }
-        ensures free { self.now.bytes ≡ [] → IsOk result }
+        ensures free { length self.now.bytes ≤ 16 → IsOk result }
     {
         let bytes = self.bytes.try_copy(alloc)?;
         Ok(Message {

@@ -1,7 +1,7 @@
 //! What the hub answers.
 
 ghost use Rattle.std.specs.Prelude.{◌≡◌, ◌↔◌, IfOk, IsOk, IsTrue};
-ghost use Rattle.mp_types.specs.Carried.{carried_by_reply};
+ghost use Rattle.mp_types.specs.Carried.{carried_by_reply, IsInPlace};
 
 use crate::codes::Code;
 use crate::messages::{Envelope, Gots, Message};
@@ -41,11 +41,12 @@ impl Reply {
     }
 
     /// The same reply once more: the two share the bytes of messages. The list of what several posts gave is copied. A
-    /// copy of one that carries no elements takes no memory.
+    /// copy of one that carries no elements, or a message of at most 16 bytes, is never refused.
     #[inline(always)]
     pub fn try_copy(&self, alloc: Global) -> Result<Reply, AllocError>
         ensures copy { IfOk result (λ copy. copy ≡ self.now) }
         ensures free { carried_by_reply self.now ≡ 0 → IsOk result }
+        ensures in_place { IsInPlace self.now → IsOk result }
     {
         match self {
             Reply::Code(code) => Ok(Reply::Code(*code)),

@@ -1,6 +1,7 @@
 //! Calls of the hub that aren't refused memory, each proved from the contract alone.
 
-ghost use Rattle.std.specs.Prelude.{◌≡◌, ◌≢◌, ◌+◌, ◌-◌, ◌<◌, ◌^◌, ◌∷◌, [], length, max};
+ghost use Rattle.std.specs.Prelude.{◌≡◌, ◌≢◌, ◌+◌, ◌-◌, ◌<◌, ◌^◌, ◌∷◌, [], length, max, IfOk};
+ghost use Rattle.mp_types.specs.Carried.{IsInPlace};
 ghost use Rattle.mp_hub.specs.Hub.{reply_of, hub_at_start};
 ghost use Rattle.cl_journal.specs.Journal.{calls_of, entries_by};
 ghost use Rattle.cl_journal.specs.Replaying.{clock_of};
@@ -84,10 +85,25 @@ pub fn full_before_memory(hub: &mut Hub, rank: u8) -> Result<(Reply, Stamp), Hub
     )
 }
 
-/// A hub that was never called knows no post 5, and tells it twice whatever memory there is.
-pub fn unknown_post_told_twice(hub: &mut HubState, rank: u8) -> Result<(Reply, Reply), CallFault>
+/// A hub that was never called knows no post 5, and tells it whatever memory there is.
+pub fn unknown_post_told(hub: &mut HubState, rank: u8) -> Result<Reply, CallFault>
     requires { hub.old ≡ hub_at_start [] }
-    ensures { result ≡ Ok (Reply.Code Code.BadRequest, Reply.Code Code.BadRequest) }
+    ensures { result ≡ Ok (Reply.Code Code.BadRequest) }
 {
-    hub.answer_twice(rank, &Request::Collect { post: 5 })
+    let mut twin = None;
+    hub.answer_with(rank, &Request::Collect { post: 5 }, &mut twin)
+}
+
+/// A reply that doesn't stand in place is there once more.
+pub fn long_reply_has_a_twin(
+    hub: &mut HubState,
+    rank: u8,
+    request: &Request,
+    twin: &mut Option<Reply>,
+) -> Result<Reply, CallFault>
+    requires none { twin.old ≡ None }
+    requires few { length hub.old.board.lines < 2 ^ 64 - 1 }
+    ensures { IfOk result (λ reply. ¬ (IsInPlace reply) → twin.new ≡ Some reply) }
+{
+    hub.answer_with(rank, request, twin)
 }

@@ -34,16 +34,17 @@ pub fn last_place(queues: &mut Queues, sent: Sent, bytes: Bytes) -> Result<bool,
     queues.post_send(sent, bytes)
 }
 
-/// A receive that takes the message at once gives it twice, and it isn't held any more.
-pub fn received_twice(
+/// A receive takes the message at once, and it isn't held any more.
+pub fn received_at_once(
     alloc: Global,
     queues: &mut Queues,
-) -> Result<(Option<Message>, Option<Message>), AllocError>
+    twin: &mut Option<Message>,
+) -> Result<Option<Message>, AllocError>
     requires { queues.old ≡ one_sent }
-    ensures messages { IfOk result (λ got. got ≡ (Some message, Some message)) }
+    ensures message { IfOk result (λ got. got ≡ Some message) }
     ensures after { OnOk result (queues.new ≡ one_collected) }
 {
-    queues.receive_twice(alloc, ANY)
+    queues.receive_with(alloc, ANY, twin)
 }
 
 /// A claim has the number of its own post, which is 2 here.

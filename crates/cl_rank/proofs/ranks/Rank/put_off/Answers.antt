@@ -8,7 +8,7 @@ pub wait_on-requires-clause-may : goal.wait_on-requires-clause-may
 wait_on-requires-clause-may c =
     let may = c.requires.may in
     let state = c.args.self.now.state in
-    let turn = c.args.turn in
+    let turn = c.args.turn.now in
     let again = asks_so state turn.hart c.index.result.now turn.doing c.args.request c.index.ensures may.has.there
     may.next.spelled (sym c.if-repeats.ensures) c.requires.asked in
     record {
@@ -21,7 +21,7 @@ pub wait_on-requires-clause-again : goal.wait_on-requires-clause-again
 wait_on-requires-clause-again c =
     let may = c.requires.may in
     let state = c.args.self.now.state in
-    let turn = c.args.turn in
+    let turn = c.args.turn.now in
     let again = asks_so state turn.hart c.index.result.now turn.doing c.args.request c.index.ensures may.has.there
     may.next.spelled (sym c.if-repeats.ensures) c.requires.asked in
     subst (λ (o : Option Request). IsAgain state turn.hart o) (sym c.ok.ensures.value)

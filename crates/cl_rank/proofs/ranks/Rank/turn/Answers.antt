@@ -57,8 +57,8 @@ invariant_of-self-else-step_plain g c =
     as_it_was c.args.self.now c.step_plain.new.state c.reserve.new.self.events
     (c.step_plain.ensures.none c.if-step_plain.false) c.reserve.ensures.events
 
-pub other_turn-requires-clause-own : goal.other_turn-requires-clause-own
-other_turn-requires-clause-own g c =
+pub other_turn-requires-2-clause-own : goal.other_turn-requires-2-clause-own
+other_turn-requires-2-clause-own g c =
     let r = c.args.self.now in
     subst (λ (s : RankState). AreChannelsOf s.site.version c.args.channels.now (sides_in r.sends.items r.recvs.items))
     (sym (c.step_plain.ensures.none c.if-step_plain.false)) c.requires.own
@@ -70,7 +70,17 @@ returns g c =
     (ap (λ (s : RankState). seen (rank_of s) c.reserve.new.self.events r.sends.items r.recvs.items (place_in r.asked_box))
     (c.step_plain.ensures.none c.if-step_plain.false)
     ∙ ap (λ es. seen (rank_of r.state) es r.sends.items r.recvs.items (place_in r.asked_box)) c.reserve.ensures.events)
-    refl c.step_plain.ensures.harts c.other_turn.result c.other_turn.new.self c.args.desk.now c.other_turn.new.desk
+    refl c.step_plain.ensures.harts c.other_turn-2.result c.other_turn-2.new.self c.args.desk.now
+    c.other_turn-2.new.desk
+    (λ none. let space : 0 < c.reserve.new.self.room = search rules in absurd (omega (arith, none, space)))
+    c.other_turn-2.ensures
+
+pub returns-then-self : goal.returns-then-self
+returns-then-self g c =
+    let r = c.args.self.now in
+    same_ends g.D.Desk.gives c.args.hart r c.args.channels.now _
+    (ap (λ es. seen (rank_of r.state) es r.sends.items r.recvs.items (place_in r.asked_box)) c.reserve.ensures.events)
+    refl refl c.other_turn.result c.other_turn.new.self c.args.desk.now c.other_turn.new.desk
     (λ none. let space : 0 < c.reserve.new.self.room = search rules in absurd (omega (arith, none, space)))
     c.other_turn.ensures
 

@@ -1,5 +1,4 @@
-use Rattle.std.proofs.Common.{◌≡◌, ◌∙◌, sym, ap}
-use Rattle.std.specs.Prelude.{Some}
+use Rattle.std.proofs.Common.{◌∙◌, sym, ap}
 use Rattle.mp_hub.specs.Claimed.{is_only_claimed, waits_for_receive}
 use Rattle.mp_hub.specs.Hub.{HubView}
 use Rattle.mp_hub.proofs.Held.{only_claimed_is}

@@ -1,4 +1,6 @@
-use Rattle.std.proofs.Common.{ap, ◌∙◌}
+use Rattle.std.specs.Prelude.{◌≡◌, Option}
+use Rattle.std.proofs.Common.{ap, subst, IfOk, ◌∙◌}
+use Rattle.mp_types.specs.declared.messages.Message.{Message}
 use Rattle.mp_match.specs.Board.{Board, message_at}
 use Rattle.mp_match.specs.Live.{kept}
 use Rattle.mp_match.proofs.Asked.{message_is}
@@ -6,7 +8,7 @@ use Rattle.mp_match.proofs.queues.Queues.copy_at.Goals as goal
 
 pub returns-clause-copy : goal.returns-clause-copy
 returns-clause-copy c =
-    c.in_ok-copy.ensures.copy
-    ∙ message_is c.self.inside.owners.items (kept c.self.inside.table.map) c.self.inside.history.board
+    let same = message_is c.self.inside.owners.items (kept c.self.inside.table.map) c.self.inside.history.board
     c.self.invariant.0 c.args.place
-    ∙ ap (λ (b : Board). message_at b c.args.place) c.self.view_is
+    ∙ ap (λ (b : Board). message_at b c.args.place) c.self.view_is in
+    subst (λ (x : Option Message). IfOk c.message_copy.result (λ copy. copy ≡ x)) same c.message_copy.ensures.copy

@@ -4,16 +4,15 @@ use Rattle.mp_types.specs.declared.replies.Reply.TheVariants as reply
 use Rattle.mp_hub.specs.Hub.{message_or}
 use Rattle.mp_hub.specs.Held.{AreHeld}
 use Rattle.mp_hub.proofs.Held.{held_received}
-use Rattle.mp_hub.proofs.state.HubState.recv_twice.Goals as goal
+use Rattle.mp_hub.proofs.state.HubState.recv_with.Goals as goal
 
 pub returns-clause-ok : goal.returns-clause-ok
 returns-clause-ok c =
-    let got = c.in-Ok.ensures.messages in
     let number = c.posts-post.ensures in
-    let first = c.message_or.ensures ∙ (λ i. message_or (reply.Posted (number i + 1) false) ((got i).0)) in
-    let second = c.message_or-2.ensures ∙ (λ i. message_or (reply.Posted (number i + 1) false) ((got i).1)) in
+    let got = c.message_or.ensures
+    ∙ (λ i. message_or (reply.Posted (number i + 1) false) (c.in-Ok.ensures.message i)) in
     rw (← c.self.view_is) (
-      λ i. (first i, second i),
+      got,
       λ i. record {
         links = c.self.inside.links.items;
         board = c.in-Ok.ensures.after i;

@@ -1,9 +1,9 @@
 use Rattle.std.proofs.Common.{◌≡◌, ◌++◌, sym, ap, ◌∙◌, subst, map}
 use Rattle.mp_hub.specs.Hub.{HubView, all_got, one_got}
-use Rattle.mp_hub.specs.Twice.{Covers}
+use Rattle.mp_hub.specs.Twins.{Covers}
 use Rattle.mp_hub.proofs.Copied.{covered}
 use Rattle.mp_hub.proofs.Held.{held_by_gathering}
-use Rattle.mp_hub.proofs.state.HubState.gather_twice.Goals as goal
+use Rattle.mp_hub.proofs.state.HubState.gather_with.Goals as goal
 
 pub kept_copies-twins-requires : goal.kept_copies-twins-requires
 kept_copies-twins-requires c =
@@ -22,6 +22,6 @@ kept_copies-twins-requires c =
 pub invariant_of-self : goal.invariant_of-self
 invariant_of-self c = (
   c.self.invariant.0,
-  held_by_gathering _ _ c.args.rank c.args.posts.now _ c.self.view_is c.requires c.gather.ensures.after
+  held_by_gathering _ _ c.args.rank c.args.posts.now _ c.self.view_is c.requires.known c.gather.ensures.after
       c.self.invariant.1,
 )

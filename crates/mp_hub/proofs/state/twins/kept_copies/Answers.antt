@@ -1,8 +1,8 @@
 use Rattle.std.proofs.Common.{◌≡◌, ◌+◌, None, true, false, not, slice_set, sym, ap, ◌∙◌, subst, arith}
 use Rattle.mp_hub.proofs.Copied.{IsKept, kept_end, step_none, step_some}
-use Rattle.mp_hub.proofs.state.twice.kept_copies.Goals as goal
-use Rattle.mp_hub.proofs.state.twice.kept_copies.Goals.{then-is_none+in-None-1, then-is_none+in-Some+in-Short-1}
-use Rattle.mp_hub.proofs.state.twice.kept_copies.Goals.{then-is_none+in-Some+in-Shared-1, else-is_none}
+use Rattle.mp_hub.proofs.state.twins.kept_copies.Goals as goal
+use Rattle.mp_hub.proofs.state.twins.kept_copies.Goals.{then-is_none+in-None-1, then-is_none+in-Some+in-Short-1}
+use Rattle.mp_hub.proofs.state.twins.kept_copies.Goals.{then-is_none+in-Some+in-Shared-1, else-is_none}
 
 nothing : (c : goal.Joined-is_none) → c.is_none.result ≡ true
     → IsKept (c.loop-place.place + 1) c.args.gots.now (slice_set c.loop-place.copies.items c.loop-place.place None)

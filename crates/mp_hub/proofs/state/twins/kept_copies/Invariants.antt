@@ -1,6 +1,6 @@
 use Rattle.std.proofs.Common.{◌≡◌, ◌-◌, ◌≤◌, length, take, drop}
-use Rattle.mp_hub.specs.Twice.{Covers}
-use Rattle.mp_hub.proofs.state.twice.kept_copies.Given as goal
+use Rattle.mp_hub.specs.Twins.{Covers}
+use Rattle.mp_hub.proofs.state.twins.kept_copies.Given as goal
 
 -- what was got as far as here, and beyond it the copies, which cover the rest
 abbrev pub invariant-loop-place : goal.invariant-loop-place
