@@ -49,7 +49,7 @@ use Rattle.cl_state.specs.Told.{arrived, arrived_from, not_yet, seen_one, taken_
 use Rattle.cl_state.specs.Told.{with_status}
 use Rattle.cl_state.specs.Transfers.{receive_of, send_of, source_of, tag_of}
 use Rattle.cl_state.specs.Written.{written}
-use Rattle.cl_state.proofs.Moved.{by_awaited, by_taking, row_by, row_is}
+use Rattle.cl_state.proofs.Awaits.{by_awaited, by_taking, row_by, row_is}
 use Rattle.cl_state_laws.specs.Laws.{IsLook}
 use Rattle.cl_state_laws.proofs.Misses.{no_look, no_look_all, no_look_if, no_look_pending, no_look_poll, no_look_ready}
 use Rattle.cl_state_laws.proofs.Misses.{no_look_start}

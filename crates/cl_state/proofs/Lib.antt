@@ -1,10 +1,11 @@
+pub mod Awaits
 pub mod Checked
 pub mod Dealt
 pub mod Enough
+pub mod Forms
 pub mod Idle
 pub mod Kept
 pub mod Known
-pub mod Moved
 pub mod Moves
 pub mod Pages
 pub mod Passed

@@ -1,143 +1,174 @@
--- What a turn does to the phases of its rank, and what it knows of the phase that it asks about.
-use Rattle.std.proofs.Common.{ℕ, refl, true, false, length, None}
-use Rattle.std.specs.Prelude.{◌==◌, if◌then◌else◌, [], is_some}
-use Rattle.mp_request.specs.Table.{lowest_free, request_at}
-use Rattle.cl_calls.specs.declared.calls.Call.{Call}
-use Rattle.cl_calls.specs.declared.calls.Call.TheVariants as call
-use Rattle.cl_calls.specs.declared.sites.Site.{Site}
-use Rattle.cl_calls.specs.Calls.{any, no_rank, no_message}
-use Rattle.cl_calls.specs.Checks.{has_room, receiving_side, sending_side}
-use Rattle.cl_calls.specs.Site.{member}
-use Rattle.cl_calls.specs.Handles.{handles_in}
-use Rattle.cl_calls.specs.Needs.{array_at}
-use Rattle.cl_state.specs.declared.asking.Doing.{Doing}
-use Rattle.cl_state.specs.declared.asking.Doing.TheVariants.{Step, Refused, Go, Poll, Stopped}
-use Rattle.cl_state.specs.declared.pending.Manner.TheVariants.{Immediate, Blocking, Polling, Posting}
-use Rattle.cl_state.specs.declared.row.Purpose.TheVariants as purpose
-use Rattle.cl_state.specs.declared.row.Row.TheVariants.{AtOnce, OnReply}
-use Rattle.cl_state.specs.declared.row.Wanted.TheVariants as wanted
-use Rattle.cl_state.specs.Asked.{Part, asked, asked_by, asked_in, asked_poll, doing, part_of}
-use Rattle.cl_state.specs.Moves.{MovedLaw, started_by, started_in}
-use Rattle.cl_state.specs.Several.{pendings, posts_pending}
-use Rattle.cl_state.specs.Table.{comes, into, nothing_comes, polled, probes, row_in, row_of}
-use Rattle.cl_state.specs.Told.{told}
-use Rattle.cl_state.specs.Transfers.{receive_of, send_of, source_of, tag_of}
-use Rattle.mp_types.specs.declared.requests.Request.{Request}
+-- What a turn does to the phases of its rank: what its row does when it is told an answer, by the form of the turn.
+use Rattle.std.proofs.Common.{◌≡◌, ℕ, refl, Bool, true, false, List, [], length, Option, Some, None, IsTrue}
+use Rattle.std.specs.Prelude.{if◌then◌else◌, is_some, slice_get}
+use Rattle.mp_types.specs.declared.replies.Reply.TheVariants as reply
 use Rattle.mp_types.specs.declared.requests.Request.TheVariants as request
-use Rattle.mp_request.specs.declared.entries.State.TheVariants.{Inactive}
-use Rattle.mp_request.specs.declared.entries.Transfer.TheVariants.{Receive}
-use Rattle.cl_calls.specs.declared.calls.Probing.{Probing}
+use Rattle.mp_request.specs.declared.entries.Partitions.{Partitions}
+use Rattle.mp_request.specs.declared.entries.Transfer.{Transfer}
+use Rattle.mp_request.specs.declared.entries.Transfer.TheVariants as transfer
+use Rattle.mp_request.specs.Table.{lowest_free}
+use Rattle.part_phase.specs.declared.phases.Phase.{Phase}
+use Rattle.part_phase.specs.Phases.{changed_at, is_unshaped_receiving, is_unshaped_sending, receiving_at}
+use Rattle.part_phase.specs.Receiving.{is_cut}
+use Rattle.cl_calls.specs.declared.calls.Call.TheVariants as call
+use Rattle.cl_calls.specs.declared.calls.Partitioning.{Partitioning}
+use Rattle.cl_calls.specs.declared.sites.Site.{Site}
+use Rattle.cl_calls.specs.Calls.{any}
+use Rattle.cl_calls.specs.Checks.{has_room}
+use Rattle.cl_state.specs.declared.asking.Answer.{Answer}
+use Rattle.cl_state.specs.declared.asking.Answer.TheVariants as answer
+use Rattle.cl_state.specs.declared.asking.Ask.{Ask}
 use Rattle.cl_state.specs.declared.asking.Ask.TheVariants as ask
+use Rattle.cl_state.specs.declared.asking.Doing.TheVariants.{Go}
 use Rattle.cl_state.specs.declared.pending.Manner.{Manner}
-use Rattle.cl_state.specs.declared.row.Outcome.TheVariants.{FindsNothing}
+use Rattle.cl_state.specs.declared.pending.Manner.TheVariants.{Polling, Posting}
+use Rattle.cl_state.specs.declared.pending.Target.{Target}
+use Rattle.cl_state.specs.declared.row.Purpose.TheVariants as purpose
+use Rattle.cl_state.specs.declared.row.Row.{Row}
+use Rattle.cl_state.specs.declared.row.Row.TheVariants.{OnReply, OnBox}
+use Rattle.cl_state.specs.declared.row.Visit.TheVariants.{Readies, Frees, Takes, Sees}
 use Rattle.cl_state.specs.declared.row.Wanted.{Wanted}
-use Rattle.cl_state.specs.Pending.{immediate_flag}
-use Rattle.cl_state.proofs.Kept.{IsPlain, kept_freed, kept_nothing, kept_opened, kept_received}
-use Rattle.cl_state.proofs.Moved.{IsQuiet, MovesSo, moves_arrived, moves_begins, moves_claimed, moves_completing}
-use Rattle.cl_state.proofs.Moved.{moves_gathers, moves_hub}
-use Rattle.cl_state.proofs.Moved.{moves_if, moves_ready, moves_receives, moves_receiving, moves_sending, moves_starts}
+use Rattle.cl_state.specs.declared.row.Wanted.TheVariants as wanted
+use Rattle.cl_state.specs.Asked.{Part, asked, doing, part_of}
+use Rattle.cl_state.specs.Moves.{MovedLaw, moved, started_by}
+use Rattle.cl_state.specs.Partitions.{asked_ready, asked_receiving, asked_sending}
+use Rattle.cl_state.specs.Told.{freed_one, made_side_at, part_readied, phase_begun, seen_one, taken_one, told, told_row}
+use Rattle.cl_state.proofs.Forms.{Forms, by_form}
+use Rattle.cl_state.proofs.Kept.{IsPlain, kept_all, kept_arrived, kept_freed, kept_not_yet, kept_nothing, kept_opened}
+use Rattle.cl_state.proofs.Kept.{kept_received, kept_told}
 use Rattle.cl_state.proofs.Passed.{HasPassed, passed, right_holds}
 
-abbrev pub MovesCall : Site → ℕ → Part → Call → Type 0
-MovesCall site hart part c =
-    MovesSo site part (started_in part.requests (Go c)) (row_of site hart part.memory part.requests part.phases c)
-    (asked_by site part.memory part.requests part.phases c)
+module _ (site : Site) (part : Part) where
+  -- the phases after the row was told any answer to this question
+  abbrev pub MovesSo : Option ℕ → Ask → Row → Type 0
+  MovesSo begins asks row = (a : Answer) → (told_row site row a part).phases ≡ moved site begins asks a part.phases
 
-moves_probes : (site : Site) (part : Part) (m : Manner) (p : Probing) (value : ℕ) (w : Wanted) (r : Request)
-    → IsPlain w → IsQuiet r
-    → MovesSo site part None (probes m p value w) (if (p.source == no_rank) then ask.Local else ask.Hub r)
-moves_probes site part m p value w r plain quiet =
-    moves_if site part (p.source == no_rank) None (AtOnce (FindsNothing value p.status)) (OnReply m w) ask.Local
-    (ask.Hub r) (λ a. kept_nothing value p.status part) (moves_hub site part None m w r plain quiet)
+  same_if : (b : Bool) (x y : Part) (p q : List Phase) → x.phases ≡ p → y.phases ≡ q
+      → (if b then x else y).phases ≡ (if b then p else q)
+  same_if true x y p q first second = first
+  same_if false x y p q first second = second
 
-moves_call : (site : Site) (hart : ℕ) (part : Part) (c : Call) → HasPassed site part (Go c) → MovesCall site hart part c
-moves_call site hart part (call.Send s) passed =
-    moves_begins site part part.memory true purpose.Send (send_of site false s)
-moves_call site hart part (call.Ssend s) passed =
-    moves_begins site part part.memory true purpose.Send (send_of site true s)
-moves_call site hart part (call.Recv r status) passed =
-    moves_receives site part (r.source == no_rank) part.memory
-    (Receive r.buffer r.capacity (source_of site r.comm r.source) (tag_of r.tag) r.comm)
-    (nothing_comes (into r.buffer r.capacity status)) (comes (into r.buffer r.capacity status))
-    (λ a. kept_received (into r.buffer r.capacity status) no_rank any [] part)
-    (moves_hub site part None Posting (wanted.MessageOrPost (into r.buffer r.capacity status))
-    (request.Recv true r.comm (source_of site r.comm r.source) (tag_of r.tag)) tt tt)
-moves_call site hart part (call.Isend s) passed =
-    moves_begins site part part.memory false purpose.Open (send_of site false s)
-moves_call site hart part (call.Issend s) passed =
-    moves_begins site part part.memory false purpose.Open (send_of site true s)
-moves_call site hart part (call.Irecv r) passed =
-    moves_begins site part part.memory false purpose.Open (receive_of site r)
-moves_call site hart part (call.Test c) passed =
-    moves_completing site part Immediate c part.phases (request_at part.requests c.handle)
-moves_call site hart part (call.Wait c) passed =
-    moves_completing site part Blocking c part.phases (request_at part.requests c.handle)
-moves_call site hart part (call.Iprobe p) passed =
-    moves_probes site part Immediate p (immediate_flag Immediate) (wanted.Sight (immediate_flag Immediate) p.status)
-    (request.Probe p.comm (source_of site p.comm p.source) (tag_of p.tag)) tt tt
-moves_call site hart part (call.Probe p) passed =
-    moves_probes site part Blocking p (immediate_flag Blocking) (wanted.Sight (immediate_flag Blocking) p.status)
-    (request.Probe p.comm (source_of site p.comm p.source) (tag_of p.tag)) tt tt
-moves_call site hart part (call.Improbe p) passed =
-    moves_probes site part Immediate p no_message (wanted.Claim p.status)
-    (request.Claim p.comm (source_of site p.comm p.source) (tag_of p.tag)) tt tt
-moves_call site hart part (call.Mprobe p) passed = moves_probes site part Blocking p no_message (wanted.Claim p.status)
-    (request.Claim p.comm (source_of site p.comm p.source) (tag_of p.tag)) tt tt
-moves_call site hart part (call.Imrecv m) passed =
-    moves_claimed site part (m.message == no_message) m.buffer m.capacity m.message
-moves_call site hart part (call.Mrecv m status) passed =
-    moves_if site part (m.message == no_message) None (nothing_comes (into m.buffer m.capacity status))
-    (comes (into m.buffer m.capacity status)) ask.Local (ask.Hub (request.Claimed true m.message))
-    (λ a. kept_received (into m.buffer m.capacity status) no_rank any [] part)
-    (moves_hub site part None Posting (wanted.MessageOrPost (into m.buffer m.capacity status))
-    (request.Claimed true m.message) tt tt)
-moves_call site hart part (call.SendInit s) passed =
-    λ a. kept_opened (record { transfer = send_of site false s; state = Inactive }) part
-moves_call site hart part (call.RecvInit r) passed =
-    λ a. kept_opened (record { transfer = receive_of site r; state = Inactive }) part
-moves_call site hart part (call.Start handle) passed =
-    moves_starts site part part.memory handle (request_at part.requests handle)
-moves_call site hart part (call.RequestFree handle) passed = λ a. kept_freed handle part
-moves_call site hart part (call.Testall s) passed =
-    moves_gathers site part Immediate s
-    (posts_pending (pendings part.requests (handles_in part.memory (array_at s.array s.count))))
-moves_call site hart part (call.Waitall s) passed =
-    moves_gathers site part Blocking s
-    (posts_pending (pendings part.requests (handles_in part.memory (array_at s.array s.count))))
-moves_call site hart part (call.PsendInit t) passed =
-    moves_sending site part t t.comm (member site t.comm t.peer) t.tag
-    (right_holds (has_room (length part.out) 0) (is_some (lowest_free part.requests))
-    passed.1.1.1.1.1.1.1.1.1.1.1.1.1.0)
-moves_call site hart part (call.PrecvInit t) passed =
-    moves_receiving site part t t.comm (member site t.comm t.peer) t.tag
-    (right_holds (has_room (length part.out) 0) (is_some (lowest_free part.requests))
-    passed.1.1.1.1.1.1.1.1.1.1.1.1.1.0)
-moves_call site hart part (call.Pready handle ready) passed =
-    moves_ready site part ready (sending_side (request_at part.requests handle))
-moves_call site hart part (call.Parrived handle asked) passed =
-    moves_arrived site part asked (receiving_side (request_at part.requests handle))
-moves_call site hart part _ passed = λ a. refl
+  both : (b : Bool) (x y : Part) (p : List Phase) → x.phases ≡ p → y.phases ≡ p → (if b then x else y).phases ≡ p
+  both true x y p first second = first
+  both false x y p first second = second
 
-moves_poll : (site : Site) (part : Part) (c : Call) (post : ℕ)
-    → MovesSo site part None (OnReply Polling (polled c)) (asked_poll c post)
-moves_poll site part (call.Ssend s) post = moves_hub site part None Polling wanted.Sent (request.Finished post) tt tt
-moves_poll site part (call.Recv r status) post =
-    moves_hub site part None Polling (polled (call.Recv r status)) (request.Collect post) tt tt
-moves_poll site part (call.Mrecv m status) post =
-    moves_hub site part None Polling (polled (call.Mrecv m status)) (request.Collect post) tt tt
-moves_poll site part _ post = moves_hub site part None Polling wanted.Nothing (request.Collect post) tt tt
+  kept : (m : Manner) (w : Wanted) → IsPlain w → (a : Answer)
+      → (told_row site (OnReply m w) a part).phases ≡ part.phases
+  kept m w plain a = kept_told site m w a part plain
 
-moves_turn : (site : Site) (hart : ℕ) (part : Part) (d : Doing) → HasPassed site part d
-    → MovesSo site part (started_in part.requests d) (row_in site hart part.memory part.requests part.phases d)
-    (asked_in site part.memory part.requests part.phases d)
-moves_turn site hart part Step passed = λ a. refl
-moves_turn site hart part (Refused code) passed = λ a. refl
-moves_turn site hart part (Go c) passed = moves_call site hart part c passed
-moves_turn site hart part (Poll c post) passed = moves_poll site part c post
-moves_turn site hart part Stopped passed = λ a. refl
+  -- ---- links and cuts
+
+  moves_made : (o : Option ℕ) (t : Transfer) (link : ℕ) (shape : Phase → Phase) → IsTrue (is_some o)
+      → (made_side_at o t link shape part).phases ≡ changed_at link shape part.phases
+  moves_made None t link shape there = absurd (cc)
+  moves_made (Some handle) t link shape there = refl
+
+  moves_sending : (t : Partitioning) → HasPassed site part (Go (call.PsendInit t))
+      → MovesSo None (asked_sending site t) (OnReply Posting (wanted.SendingLink t))
+  moves_sending t passed (answer.Reply (reply.Link link)) =
+      same_if (is_unshaped_sending (slice_get part.phases link)) _ _ _ _
+      (moves_made (lowest_free part.requests) _ link _
+      (right_holds (has_room (length part.out) 0) _ passed.1.1.1.1.1.1.1.1.1.1.1.1.1.0)) refl
+  moves_sending t passed _ = refl
+
+  moves_receiving : (t : Partitioning) → HasPassed site part (Go (call.PrecvInit t))
+      → MovesSo None (asked_receiving site t) (OnReply Posting (wanted.ReceivingLink t))
+  moves_receiving t passed (answer.Reply (reply.Link link)) =
+      same_if (is_unshaped_receiving (slice_get part.phases link)) _ _ _ _
+      (moves_made (lowest_free part.requests) _ link _
+      (right_holds (has_room (length part.out) 0) _ passed.1.1.1.1.1.1.1.1.1.1.1.1.1.0)) refl
+  moves_receiving t passed _ = refl
+
+  moves_cut : (m : Manner) (link : ℕ) → MovesSo None (ask.Hub (request.Cut link)) (OnReply m (wanted.Cut m link))
+  moves_cut m link (answer.Reply (reply.Cut boxes bytes)) =
+      same_if (is_cut site.version (receiving_at part.phases link) boxes bytes) _ _ _ _ (kept_not_yet m _) refl
+  moves_cut m link (answer.Reply reply.NotYet) = kept_not_yet m part
+  moves_cut m link _ = refl
+
+  -- ---- boxes
+
+  moves_readies : (side : Partitions) (ready : ℕ)
+      → MovesSo None (asked_ready site part.memory ready (Some side)) (OnBox (Readies side.link ready))
+  unfolding part_readied
+  moves_readies side ready answer.Alone = refl
+  moves_readies side ready _ = refl
+
+  moves_frees : (m : Manner) (link free : ℕ) (target : Target)
+      → MovesSo None (ask.Freed link free) (OnBox (Frees m link target))
+  unfolding freed_one
+  moves_frees m link free target answer.Freed =
+      both _ _ _ _ (kept_received target _ _ _ _) (kept_not_yet m _)
+  moves_frees m link free target answer.Missed = kept_not_yet m part
+  moves_frees m link free target _ = refl
+
+  moves_takes : (m : Manner) (side : Partitions) (box : ℕ) (target : Target)
+      → MovesSo None (ask.Look side.link box) (OnBox (Takes m side box target))
+  unfolding taken_one
+  moves_takes m side box target (answer.Taken bytes) =
+      both _ _ _ _ (kept_not_yet m _) (kept_arrived site side target _)
+  moves_takes m side box target answer.Missed = kept_not_yet m part
+  moves_takes m side box target _ = refl
+
+  moves_looks : (side : Partitions) (box asked : ℕ)
+      → MovesSo None (ask.Look side.link box) (OnBox (Sees side box asked))
+  unfolding seen_one
+  moves_looks side box asked (answer.Taken bytes) = refl
+  moves_looks side box asked _ = refl
+
+  -- ---- a turn
+
+  moves : (hart : ℕ)
+      → Forms site hart part.memory part.requests part.phases
+      (λ started d asks row. HasPassed site part d → MovesSo started asks row)
+  unfolding phase_begun
+  moves hart = record {
+    steps = λ passed a. refl;
+    refused = λ c passed a. refl;
+    stopped = λ passed a. refl;
+    polls_message = λ c post target passed. kept Polling (wanted.Message target) tt;
+    polls_send = λ c post passed. kept Polling wanted.Sent tt;
+    polls_other = λ c post passed. kept Polling wanted.Nothing tt;
+    stays = λ passed a. refl;
+    exits = λ value passed a. refl;
+    puts = λ buffer count passed a. refl;
+    ends = λ c end value passed a. refl;
+    completes = λ c source target passed a. kept_received target source any [] part;
+    completes_all = λ c value s of passed a. kept_all site value s.statuses _ [] part;
+    finds_nothing = λ c value status passed a. kept_nothing value status part;
+    arrives = λ c side target passed a. kept_arrived site side target part;
+    holds = λ c passed a. refl;
+    makes = λ c t of none passed a. kept_opened _ part;
+    opens = λ c t of none passed a. kept_opened _ part;
+    starts = λ handle passed a. refl;
+    begins = λ handle link passed a. refl;
+    frees = λ handle passed a. kept_freed handle part;
+    sends = λ c why sync buffer count dest tag comm is of passed.
+        kept Posting (wanted.Post why (transfer.Send sync buffer count dest tag comm)) tt;
+    receives = λ c why now buffer capacity source tag comm is passed.
+        kept Posting (wanted.Post why (transfer.Receive buffer capacity source tag comm)) tt;
+    receives_claimed = λ c buffer capacity message passed.
+        kept Posting (wanted.Post purpose.Open (transfer.ReceiveClaimed buffer capacity)) tt;
+    starts_claimed = λ handle buffer capacity passed.
+        kept Posting (wanted.Post (purpose.Start handle) (transfer.ReceiveClaimed buffer capacity)) tt;
+    comes = λ c comm source tag target passed. kept Posting (wanted.MessageOrPost target) tt;
+    comes_claimed = λ c message target passed. kept Posting (wanted.MessageOrPost target) tt;
+    links_sending = moves_sending;
+    links_receiving = moves_receiving;
+    collects = λ c m post target passed. kept m (wanted.Message target) tt;
+    finishes = λ c m post target passed. kept m (wanted.Word target) tt;
+    gathers = λ c m value s post posts of passed. kept m (wanted.All value s) tt;
+    sees = λ c m comm source tag value status passed. kept m (wanted.Sight value status) tt;
+    claims = λ c m comm source tag status passed. kept m (wanted.Claim status) tt;
+    cuts = λ c m link going unknown passed. moves_cut m link;
+    readies = λ handle ready side is passed. moves_readies side ready;
+    frees_part = λ c m link free target going next ready passed. moves_frees m link free target;
+    takes = λ c m side box target going next passed. moves_takes m side box target;
+    looks = λ c side box asked going next passed. moves_looks side box asked;
+  }
 
 pub moved_by : MovedLaw
 unfolding told asked started_by
 moved_by rank hart a stamp =
-    moves_turn rank.site hart (part_of rank hart) (doing rank.site (part_of rank hart))
-    (passed rank.site (part_of rank hart)) a
+    let part = part_of rank hart in
+    by_form rank.site hart part.memory part.requests part.phases _ (moves rank.site part hart)
+    (doing rank.site part) (passed rank.site part) a

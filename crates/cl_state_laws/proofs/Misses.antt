@@ -41,7 +41,7 @@ use Rattle.cl_state.specs.Asked.{Part, asked, asked_by, asked_completing, asked_
 use Rattle.cl_state.specs.Asked.{part_of}
 use Rattle.cl_state.specs.Partitions.{asked_arrived, asked_awaited, asked_ready, awaited, awaited_at, awaited_by}
 use Rattle.cl_state.specs.Partitions.{awaited_in, taking_of}
-use Rattle.cl_state.proofs.Moved.{by_awaited, by_taking, row_by, row_is}
+use Rattle.cl_state.proofs.Awaits.{by_awaited, by_taking, row_by, row_is}
 use Rattle.cl_state.specs.Pending.{asked_pending, pending_of}
 use Rattle.cl_state.specs.Several.{asked_all, pendings, posts_pending}
 use Rattle.cl_state.specs.Table.{completing, row_arrived, row_awaited, row_completing, row_in, row_of, row_of_part}
