@@ -339,8 +339,8 @@ impl Queues {
         self.collect_from(partner)
     }
 
-    /// Takes out the message of a receive or a claim as `collect` does. Where it has more than 16 bytes, `twin` is that
-    /// message once more, which shares its bytes, and else None: such a message can be copied at any time.
+    /// Takes out the message of a receive or a claim as `collect` does. `twin` is that message once more, which shares its
+    /// bytes. It may be None where there is no message, or one of at most 16 bytes, which can be copied at any time.
     ///
     /// Refused for memory alone, and never where there is no message or one of at most 16 bytes; after a refusal all is
     /// as it was.

@@ -28,7 +28,7 @@ buffers, as `needs buffering: ranks 0 1`.
 Every run is one of this machine. A send copies its message and returns, and a
 message arrives at once. MPI allows more: a standard send may wait until it is
 received (MPI 4.1, 3.4), a nonblocking one in MPI_Wait or MPI_Waitall. Ranks that
-would be stuck only then need buffers, and the program is unsafe (3.5), though
+get stuck only if sends wait need buffers, and the program is unsafe (3.5), though
 each run of it may end well here. The first ones that are found are listed.
 MPI_Test and calls like it take a standard send as complete. --buffered takes
 each standard send to copy its message and to return, and doesn't look for ranks

@@ -296,8 +296,9 @@ impl HubState {
         }
     }
 
-    // Of a request that brings no message: all of the reply stands in place.
-    #[inline(always)]
+    // Of a request that brings no message: all of the reply stands in place. No SEND and no RECV goes this way. So it isn't
+    // inlined, and leaves room for the hub's call inside the turn of a rank, where the compiler drops what grows too large.
+    #[inline(never)]
     fn bare_with(
         &mut self,
         rank: u8,
