@@ -19,19 +19,14 @@ use Rattle.mp_request.specs.declared.entries.Partitions.{Partitions}
 use Rattle.mp_request.specs.declared.entries.Progress.{Progress}
 use Rattle.mp_request.specs.declared.entries.Progress.TheVariants as progress
 use Rattle.mp_request.specs.declared.entries.Transfer.{Transfer}
-use Rattle.mp_request.specs.declared.entries.Transfer.TheVariants as transfer
-use Rattle.mp_request.specs.Table.{Table, lowest_free, request_at}
+use Rattle.mp_request.specs.Table.{Table, lowest_free}
 use Rattle.part_phase.specs.declared.phases.Phase.{Phase}
 use Rattle.part_phase.specs.Phases.{sending_at, receiving_at, changed_at, on_sending}
 use Rattle.part_phase.specs.Receiving.{is_cut}
 use Rattle.part_phase.specs.Sending.{all_freed, one_freed}
 use Rattle.cl_calls.specs.declared.calls.Several.{Several}
-use Rattle.cl_calls.specs.declared.calls.Call.{Call}
-use Rattle.cl_calls.specs.declared.calls.Call.TheVariants as call
-use Rattle.cl_calls.specs.declared.calls.Completing.{Completing}
-use Rattle.cl_calls.specs.Checks.{receiving_side, sending_side}
 use Rattle.cl_calls.specs.declared.sites.Site.{Site}
-use Rattle.cl_calls.specs.Calls.{any, no_rank, no_message}
+use Rattle.cl_calls.specs.Calls.{any, no_rank}
 use Rattle.cl_calls.specs.Handles.{handles_in}
 use Rattle.cl_calls.specs.Needs.{array_at}
 use Rattle.cl_state.specs.declared.asking.Answer.{Answer}
@@ -53,17 +48,12 @@ use Rattle.cl_state.specs.declared.row.Visit.TheVariants.{Readies, Frees, Takes,
 use Rattle.cl_state.specs.declared.row.Wanted.{Wanted}
 use Rattle.cl_state.specs.declared.row.Wanted.TheVariants as wanted
 use Rattle.cl_state.specs.Asked.{Part, no_hart, part_of, doing}
-use Rattle.cl_state.specs.Several.{post_of, posts_pending, pendings, are_fit, got_for_post, left_of, given_one, given, with_all_bytes, with_statuses, bytes_of_status, statuses_of}
-use Rattle.cl_state.specs.Table.{begun_outcome, begins, begins_phase, starts, completes, completing, concludes, holds_by, takes, row_awaited, row_completing, row_ready, row_of_part, row_arrived, gathers, row_of, row_in}
-use Rattle.cl_state.specs.Pending.{pending_of}
+use Rattle.cl_state.specs.Several.{post_of, pendings, are_fit, got_for_post, left_of, given_one, given, with_all_bytes, with_statuses, bytes_of_status, statuses_of}
+use Rattle.cl_state.specs.Table.{begun_outcome, row_in}
 use Rattle.cl_state.specs.Rank.{Rank}
-use Rattle.cl_state.specs.Transfers.{send_of, receive_of, claimed_of}
-use Rattle.cl_state.specs.declared.partitions.Awaited.{Awaited}
-use Rattle.cl_state.specs.declared.partitions.Awaited.TheVariants as awaits
-use Rattle.cl_state.specs.declared.asking.Doing.TheVariants.{Step, Refused, Go, Poll, Stopped}
-use Rattle.cl_state.specs.Partitions.{awaited_of_part}
 use Rattle.cl_state.specs.Told.{arrived, arrived_from, completed_all, cut_known, done, ended, found, found_at, found_nothing, freed, freed_one, gathered, gathered_if, made_side_at, not_yet, opened_at, part_readied, phase_begun, received, received_from, received_message, replied, returned, seen_one, taken_one, told, told_in, told_row, visited, with_taken_box, with_status}
 use Rattle.cl_state.specs.Written.{written}
+use Rattle.cl_state.proofs.Forms.{Forms, by_form}
 use Rattle.cl_state_laws.specs.Leaves.{IsLeft, has_returned, is_waiting, has_ended, is_kept, Range, IsOutside, IsOutsideAll, status_range, target_ranges, box_range, buffers_of, statuses_range, several_ranges, ranges_of, IsNoStep, HartLaw, BytesLaw}
 
 -- ---- bytes that are written
@@ -481,119 +471,53 @@ left_row i site (OnReply m w) (answer.Reply r) part call = left_replied i site m
 left_row i site (OnReply m w) a part call = ends_so i _ code.BadRequest 0 part
 left_row i site (OnBox v) a part call = left_visited i site v a part
 
--- ---- no row of a call is an instruction
+-- ---- no row but an instruction's is an instruction
 
-if_no_step : (b : Bool) (x y : Row) → IsNoStepRow x → IsNoStepRow y → IsNoStepRow (if b then x else y)
-if_no_step true x y p q = p
-if_no_step false x y p q = q
+module _ (site : Site) (hart : ℕ) (memory : Memory) (table : Table) (phases : List Phase) where
+  rows : Forms site hart memory table phases (λ started d asks row. IsNoStep d → IsNoStepRow row)
+  rows = record {
+    steps = λ call. absurd call;
+    refused = λ c call. tt;
+    stopped = λ call. tt;
+    polls_message = λ c post target call. tt;
+    polls_send = λ c post call. tt;
+    polls_other = λ c post call. tt;
+    stays = λ call. tt;
+    exits = λ value call. tt;
+    puts = λ buffer count call. tt;
+    ends = λ c end value call. tt;
+    completes = λ c source target call. tt;
+    completes_all = λ c value s of call. tt;
+    finds_nothing = λ c value status call. tt;
+    arrives = λ c side target call. tt;
+    holds = λ c call. tt;
+    makes = λ c t of none call. tt;
+    opens = λ c t of none call. tt;
+    starts = λ handle call. tt;
+    begins = λ handle link call. tt;
+    frees = λ handle call. tt;
+    sends = λ c why sync buffer count dest tag comm is of call. tt;
+    receives = λ c why now buffer capacity source tag comm is call. tt;
+    receives_claimed = λ c buffer capacity message call. tt;
+    starts_claimed = λ handle buffer capacity call. tt;
+    comes = λ c comm source tag target call. tt;
+    comes_claimed = λ c message target call. tt;
+    links_sending = λ t call. tt;
+    links_receiving = λ t call. tt;
+    collects = λ c m post target call. tt;
+    finishes = λ c m post target call. tt;
+    gathers = λ c m value s post posts of call. tt;
+    sees = λ c m comm source tag value status call. tt;
+    claims = λ c m comm source tag status call. tt;
+    cuts = λ c m link going unknown call. tt;
+    readies = λ handle ready side is call. tt;
+    frees_part = λ c m link free target going next ready call. tt;
+    takes = λ c m side box target going next call. tt;
+    looks = λ c side box asked going next call. tt;
+  }
 
-begun_no_step : (why : Purpose) (t : Transfer) (p : Progress) → IsNoStepRow (AtOnce (begun_outcome why t p))
-begun_no_step purpose.Send t progress.Finished = tt
-begun_no_step purpose.Send t (progress.Sent post) = tt
-begun_no_step purpose.Send t (progress.OnPost post) = tt
-begun_no_step purpose.Send t progress.InPhase = tt
-begun_no_step purpose.Open t p = tt
-begun_no_step (purpose.Start handle) t p = tt
-
-phase_no_step : (why : Purpose) (link : ℕ) → IsNoStepRow (begins_phase why link)
-phase_no_step purpose.Send link = tt
-phase_no_step purpose.Open link = tt
-phase_no_step (purpose.Start handle) link = tt
-
-begins_no_step : (why : Purpose) (t : Transfer) → IsNoStepRow (begins why t)
-begins_no_step why transfer.SendToNull = begun_no_step why transfer.SendToNull progress.Finished
-begins_no_step why transfer.ReceiveFromNull = begun_no_step why transfer.ReceiveFromNull progress.Finished
-begins_no_step why (transfer.SendPartitions side) = phase_no_step why side.link
-begins_no_step why (transfer.ReceivePartitions side) = phase_no_step why side.link
-begins_no_step why _ = tt
-
-starts_no_step : (handle : ℕ) (o : Option OpenRequest) → IsNoStepRow (starts handle o)
-starts_no_step handle None = tt
-starts_no_step handle (Some r) = begins_no_step (purpose.Start handle) r.transfer
-
-completes_no_step : (m : Manner) (c : Completing) (p : Pending) → IsNoStepRow (completes m c p)
-completes_no_step m c pending.Nothing = tt
-completes_no_step m c pending.FromNull = tt
-completes_no_step m c (pending.Message post buffer capacity) = tt
-completes_no_step m c (pending.Word post) = tt
-
-concludes_no_step : (t : Transfer) (target : Target) → IsNoStepRow (AtOnce (concludes t target))
-concludes_no_step (transfer.ReceivePartitions side) target = tt
-concludes_no_step _ target = tt
-
-holds_no_step : (m : Manner) → IsNoStepRow (AtOnce (holds_by m))
-holds_no_step Immediate = tt
-holds_no_step _ = tt
-
-takes_no_step : (m : Manner) (t : Transfer) (box : ℕ) (target : Target) → IsNoStepRow (takes m t box target)
-takes_no_step m (transfer.ReceivePartitions side) box target = tt
-takes_no_step m _ box target = tt
-
-awaited_no_step : (m : Manner) (t : Transfer) (target : Target) (a : Awaited) → IsNoStepRow (row_awaited m t target a)
-awaited_no_step m t target awaits.Nothing = concludes_no_step t target
-awaited_no_step m t target awaits.Unready = holds_no_step m
-awaited_no_step m t target (awaits.Taking link part) = tt
-awaited_no_step m t target (awaits.Cut link) = tt
-awaited_no_step m t target (awaits.Box link box) = takes_no_step m t box target
-
-completing_no_step : (m : Manner) (c : Completing) (a : Option Awaited) (o : Option OpenRequest)
-    → IsNoStepRow (row_completing m c a o)
-completing_no_step m c (Some a) (Some r) = awaited_no_step m r.transfer (completing m c 0 0) a
-completing_no_step m c (Some a) None = completes_no_step m c (pending_of None)
-completing_no_step m c None o = completes_no_step m c (pending_of o)
-
-ready_no_step : (part : ℕ) (o : Option Partitions) → IsNoStepRow (row_ready part o)
-ready_no_step part None = tt
-ready_no_step part (Some side) = tt
-
-part_no_step : (side : Partitions) (part : ℕ) (a : Awaited) → IsNoStepRow (row_of_part side part a)
-part_no_step side part (awaits.Cut link) = tt
-part_no_step side part (awaits.Box link box) = tt
-part_no_step side part _ = tt
-
-arrived_no_step : (phases : List Phase) (part : ℕ) (o : Option Partitions) → IsNoStepRow (row_arrived phases part o)
-arrived_no_step phases part None = tt
-arrived_no_step phases part (Some side) =
-    part_no_step side part (awaited_of_part side.link (receiving_at phases side.link) part)
-
-gathers_no_step : (m : Manner) (s : Several) (posts : List ℕ) → IsNoStepRow (gathers m s posts)
-gathers_no_step m s [] = tt
-gathers_no_step m s (post ∷ posts) = tt
-
-call_no_step : (site : Site) (hart : ℕ) (memory : Memory) (table : Table) (phases : List Phase) (c : Call)
-    → IsNoStepRow (row_of site hart memory table phases c)
-call_no_step site hart memory table phases (call.Send s) = begins_no_step purpose.Send (send_of site false s)
-call_no_step site hart memory table phases (call.Ssend s) = begins_no_step purpose.Send (send_of site true s)
-call_no_step site hart memory table phases (call.Recv r status) = if_no_step (r.source == no_rank) _ _ tt tt
-call_no_step site hart memory table phases (call.Isend s) = begins_no_step purpose.Open (send_of site false s)
-call_no_step site hart memory table phases (call.Issend s) = begins_no_step purpose.Open (send_of site true s)
-call_no_step site hart memory table phases (call.Irecv r) = begins_no_step purpose.Open (receive_of site r)
-call_no_step site hart memory table phases (call.Test c) = completing_no_step Immediate c _ (request_at table c.handle)
-call_no_step site hart memory table phases (call.Wait c) = completing_no_step Blocking c _ (request_at table c.handle)
-call_no_step site hart memory table phases (call.Iprobe p) = if_no_step (p.source == no_rank) _ _ tt tt
-call_no_step site hart memory table phases (call.Probe p) = if_no_step (p.source == no_rank) _ _ tt tt
-call_no_step site hart memory table phases (call.Improbe p) = if_no_step (p.source == no_rank) _ _ tt tt
-call_no_step site hart memory table phases (call.Mprobe p) = if_no_step (p.source == no_rank) _ _ tt tt
-call_no_step site hart memory table phases (call.Imrecv m) = begins_no_step purpose.Open (claimed_of m)
-call_no_step site hart memory table phases (call.Mrecv m status) = if_no_step (m.message == no_message) _ _ tt tt
-call_no_step site hart memory table phases (call.Start handle) = starts_no_step handle (request_at table handle)
-call_no_step site hart memory table phases (call.Testall s) =
-    gathers_no_step Immediate s (posts_pending (pendings table (handles_in memory (array_at s.array s.count))))
-call_no_step site hart memory table phases (call.Waitall s) =
-    gathers_no_step Blocking s (posts_pending (pendings table (handles_in memory (array_at s.array s.count))))
-call_no_step site hart memory table phases (call.Pready handle part) =
-    ready_no_step part (sending_side (request_at table handle))
-call_no_step site hart memory table phases (call.Parrived handle part) =
-    arrived_no_step phases part (receiving_side (request_at table handle))
-call_no_step site hart memory table phases _ = tt
-
-pub turn_no_step : (site : Site) (hart : ℕ) (memory : Memory) (table : Table) (phases : List Phase) (d : Doing) → IsNoStep d
-    → IsNoStepRow (row_in site hart memory table phases d)
-turn_no_step site hart memory table phases Step call = absurd call
-turn_no_step site hart memory table phases (Refused c) call = tt
-turn_no_step site hart memory table phases (Go c) call = call_no_step site hart memory table phases c
-turn_no_step site hart memory table phases (Poll c post) call = tt
-turn_no_step site hart memory table phases Stopped call = tt
+  pub turn_no_step : (d : Doing) → IsNoStep d → IsNoStepRow (row_in site hart memory table phases d)
+  turn_no_step = by_form site hart memory table phases _ rows
 
 left_turn : (i : ℕ) (rank : Rank) (hart : ℕ) (a : Answer) (d : Doing) → IsNoStep d
     → LeavesBy i (row_in rank.site hart rank.memory rank.requests rank.phases d) (part_of rank hart)

@@ -1,8 +1,7 @@
 -- What is open stays in communicators of which the rank is a member, and it sends there alone.
 use Rattle.std.proofs.Common.{◌≡◌, ◌∙◌, ℕ, zero, suc, refl, subst, sym, Bool, true, false, List, [], ◌∷◌, Option, Some, None, inl, inr}
-use Rattle.std.specs.Prelude.{◌==◌, ◌⊎◌, get_or, set, replicate, option_map, if◌then◌else◌}
+use Rattle.std.specs.Prelude.{◌⊎◌, get_or, set, replicate, option_map, if◌then◌else◌}
 use Rattle.std.specs.Option.{option_and_then}
-use Rattle.rv_memory.specs.Memory.{Memory}
 use Rattle.mp_types.specs.declared.messages.Envelope.{Envelope}
 use Rattle.mp_types.specs.declared.messages.Message.{Message}
 use Rattle.mp_types.specs.declared.replies.Reply.{Reply}
@@ -18,14 +17,10 @@ use Rattle.mp_request.specs.declared.entries.Transfer.{Transfer}
 use Rattle.mp_request.specs.declared.entries.Transfer.TheVariants as transfer
 use Rattle.mp_request.specs.Table.{Table, completed, lowest_free, no_requests, request_at, started, with_request}
 use Rattle.part_phase.specs.declared.phases.Phase.{Phase}
-use Rattle.cl_calls.specs.Checks.{is_comm, receiving_side, sending_side}
+use Rattle.cl_calls.specs.Checks.{is_comm}
 use Rattle.cl_calls.specs.declared.calls.Call.{Call}
-use Rattle.cl_calls.specs.declared.calls.Call.TheVariants as call
-use Rattle.cl_calls.specs.declared.calls.Completing.{Completing}
 use Rattle.cl_calls.specs.declared.calls.Partitioning.{Partitioning}
-use Rattle.cl_calls.specs.declared.calls.Sending.{Sending}
 use Rattle.cl_calls.specs.declared.sites.Site.{Site}
-use Rattle.cl_calls.specs.Calls.{no_rank, no_message}
 use Rattle.cl_state.specs.declared.asking.Answer.{Answer}
 use Rattle.cl_state.specs.declared.asking.Answer.TheVariants as answer
 use Rattle.cl_state.specs.declared.pending.Manner.{Manner}
@@ -41,24 +36,17 @@ use Rattle.cl_state.specs.declared.row.Visit.{Visit}
 use Rattle.cl_state.specs.declared.row.Visit.TheVariants.{Readies, Frees, Takes, Sees}
 use Rattle.cl_state.specs.declared.row.Wanted.{Wanted}
 use Rattle.cl_state.specs.declared.row.Wanted.TheVariants as wanted
-use Rattle.cl_state.specs.Asked.{Part, asked, asked_by, asked_completing, asked_in, asked_poll, asked_start, doing, part_of}
-use Rattle.cl_state.specs.Table.{begins, begins_phase, begun_outcome, completes, completing, concludes, gathers, holds_by, polled, row_arrived, row_awaited, row_completing, row_in, row_of, row_of_part, row_ready, starts, takes}
+use Rattle.cl_state.specs.Asked.{Part, asked, asked_in, doing, part_of}
+use Rattle.cl_state.specs.Table.{begun_outcome, row_in}
 use Rattle.cl_state.specs.Told.{arrived, arrived_from, completed_all, cut_known, done, found, found_at, found_nothing, freed, freed_one, gathered_if, made_receiving, made_sending, made_side_at, not_yet, opened_at, part_readied, phase_begun, received, received_from, received_message, replied, seen_one, taken_one, told, told_row, visited}
-use Rattle.cl_state.specs.Several.{asked_all, completed_each}
+use Rattle.cl_state.specs.Several.{completed_each}
 use Rattle.cl_state.specs.declared.asking.Ask.{Ask}
 use Rattle.cl_state.specs.declared.asking.Ask.TheVariants as ask
 use Rattle.cl_state.specs.declared.asking.Doing.{Doing}
-use Rattle.cl_state.specs.declared.asking.Doing.TheVariants.{Step, Refused, Go, Poll, Stopped}
-use Rattle.cl_state.specs.declared.partitions.Awaited.{Awaited}
-use Rattle.cl_state.specs.declared.partitions.Awaited.TheVariants as awaits
-use Rattle.cl_state.specs.declared.pending.Pending.{Pending}
-use Rattle.cl_state.specs.declared.pending.Pending.TheVariants as pending
-use Rattle.cl_calls.specs.declared.calls.Several.{Several}
+use Rattle.cl_state.specs.declared.asking.Doing.TheVariants.{Go}
 use Rattle.cl_calls.specs.Needs.{needs_of}
-use Rattle.cl_state.specs.Pending.{asked_pending, pending_of}
-use Rattle.cl_state.specs.Partitions.{asked_arrived, asked_awaited, asked_ready, awaited}
 use Rattle.cl_state.specs.Rank.{Rank}
-use Rattle.cl_state.specs.Transfers.{asked_transfer, claimed_of, receive_of, send_of}
+use Rattle.cl_state.proofs.Forms.{Forms, IsOf, by_form}
 use Rattle.cl_state.proofs.Passed.{HasPassed, passed}
 use Rattle.cl_state_laws.specs.Members.{AreInside, IsInside, MembersLaw}
 
@@ -389,240 +377,82 @@ module _ (site : Site) where
   keeps_row (OnReply m w) answer.Freed part fits = λ inside. inside
   keeps_row (OnBox v) a part fits = keeps_visited v a part
 
-  -- ---- the rows of calls
-
-  if_fits : (b : Bool) (x y : Row) → RowFits x → RowFits y → RowFits (if b then x else y)
-  if_fits true x y p q = p
-  if_fits false x y p q = q
-
-  phase_fits : (why : Purpose) (link : ℕ) → RowFits (begins_phase why link)
-  phase_fits purpose.Send link = tt
-  phase_fits purpose.Open link = tt
-  phase_fits (purpose.Start handle) link = tt
-
-  begins_fits : (why : Purpose) (t : Transfer) → IsInside site t → RowFits (begins why t)
-  begins_fits why transfer.SendToNull fits = opens_begun why transfer.SendToNull Finished fits
-  begins_fits why transfer.ReceiveFromNull fits = opens_begun why transfer.ReceiveFromNull Finished fits
-  begins_fits why (transfer.SendPartitions side) fits = phase_fits why side.link
-  begins_fits why (transfer.ReceivePartitions side) fits = phase_fits why side.link
-  begins_fits why (transfer.Send sync buffer count dest tag comm) fits = fits
-  begins_fits why (transfer.Receive buffer capacity source tag comm) fits = tt
-  begins_fits why (transfer.ReceiveClaimed buffer capacity) fits = tt
-
-  starts_fits : (handle : ℕ) (o : Option OpenRequest) → Fits site o → RowFits (starts handle o)
-  starts_fits handle None fits = tt
-  starts_fits handle (Some r) fits = begins_fits (purpose.Start handle) r.transfer (fits r refl)
-
-  completes_fits : (m : Manner) (c : Completing) (p : Pending) → RowFits (completes m c p)
-  completes_fits m c pending.Nothing = tt
-  completes_fits m c pending.FromNull = tt
-  completes_fits m c (pending.Message post buffer capacity) = tt
-  completes_fits m c (pending.Word post) = tt
-
-  concludes_fits : (t : Transfer) (target : Target) → Opens (concludes t target)
-  concludes_fits (transfer.ReceivePartitions side) target = tt
-  concludes_fits _ target = tt
-
-  holds_fits : (m : Manner) → Opens (holds_by m)
-  holds_fits Immediate = tt
-  holds_fits _ = tt
-
-  takes_fits : (m : Manner) (t : Transfer) (box : ℕ) (target : Target) → RowFits (takes m t box target)
-  takes_fits m (transfer.ReceivePartitions side) box target = tt
-  takes_fits m _ box target = tt
-
-  awaited_fits : (m : Manner) (t : Transfer) (target : Target) (a : Awaited) → RowFits (row_awaited m t target a)
-  awaited_fits m t target awaits.Nothing = concludes_fits t target
-  awaited_fits m t target awaits.Unready = holds_fits m
-  awaited_fits m t target (awaits.Taking link part) = tt
-  awaited_fits m t target (awaits.Cut link) = tt
-  awaited_fits m t target (awaits.Box link box) = takes_fits m t box target
-
-  completing_fits : (m : Manner) (c : Completing) (a : Option Awaited) (o : Option OpenRequest)
-      → RowFits (row_completing m c a o)
-  completing_fits m c (Some a) (Some r) = awaited_fits m r.transfer (completing m c 0 0) a
-  completing_fits m c (Some a) None = completes_fits m c (pending_of None)
-  completing_fits m c None o = completes_fits m c (pending_of o)
-
-  ready_fits : (part : ℕ) (o : Option Partitions) → RowFits (row_ready part o)
-  ready_fits part None = tt
-  ready_fits part (Some side) = tt
-
-  part_fits : (side : Partitions) (part : ℕ) (a : Awaited) → RowFits (row_of_part side part a)
-  part_fits side part (awaits.Cut link) = tt
-  part_fits side part (awaits.Box link box) = tt
-  part_fits side part _ = tt
-
-  arrived_fits : (phases : List Phase) (part : ℕ) (o : Option Partitions) → RowFits (row_arrived phases part o)
-  arrived_fits phases part None = tt
-  arrived_fits phases part (Some side) = part_fits side part _
-
-  gathers_fits : (m : Manner) (s : Several) (posts : List ℕ) → RowFits (gathers m s posts)
-  gathers_fits m s [] = tt
-  gathers_fits m s (post ∷ posts) = tt
-
-  -- ---- what is asked
+  -- ---- what a turn opens, wants and asks
 
   -- a send that is asked for is inside
   abbrev pub AsksInside : Ask → Type 0
   AsksInside (ask.Hub (request.Send sync comm dest tag bytes)) = is_comm site (Some comm) ≡ true
   AsksInside _ = Unit {0}
 
-  if_asks : (b : Bool) (x y : Ask) → AsksInside x → AsksInside y → AsksInside (if b then x else y)
-  if_asks true x y p q = p
-  if_asks false x y p q = q
+  module _ (part : Part) (inside : AreInside site part.requests) where
+    -- the check of the communicator, of a call that goes on
+    member_of : (c : Call) (comm : ℕ) → (needs_of c).comm ≡ Some comm → HasPassed site part (Go c)
+        → is_comm site (Some comm) ≡ true
+    member_of c comm of passed = subst (λ o. is_comm site o ≡ true) of (((passed.1).1).1).1.0
 
-  transfer_asks : (memory : Memory) (now : Bool) (t : Transfer) → IsInside site t
-      → AsksInside (asked_transfer memory now t)
-  transfer_asks memory now transfer.SendToNull fits = tt
-  transfer_asks memory now transfer.ReceiveFromNull fits = tt
-  transfer_asks memory now (transfer.Send sync buffer count dest tag comm) fits = fits
-  transfer_asks memory now (transfer.Receive buffer capacity source tag comm) fits = tt
-  transfer_asks memory now (transfer.ReceiveClaimed buffer capacity) fits = tt
-  transfer_asks memory now (transfer.SendPartitions side) fits = tt
-  transfer_asks memory now (transfer.ReceivePartitions side) fits = tt
+    opens_inside : (c : Call) (t : Transfer) → IsOf part.requests c purpose.Open t → HasPassed site part (Go c)
+        → IsInside site t
+    opens_inside c (transfer.Send sync buffer count dest tag comm) of passed = member_of c comm of passed
+    opens_inside c _ of passed = tt
 
-  start_asks : (memory : Memory) (o : Option OpenRequest) → Fits site o → AsksInside (asked_start memory o)
-  start_asks memory None fits = tt
-  start_asks memory (Some r) fits = transfer_asks memory false r.transfer (fits r refl)
+    sends_inside : (c : Call) (why : Purpose) (sync : Bool) (buffer count dest tag comm : ℕ)
+        → IsOf part.requests c why (transfer.Send sync buffer count dest tag comm) → HasPassed site part (Go c)
+        → is_comm site (Some comm) ≡ true
+    sends_inside c purpose.Send sync buffer count dest tag comm of passed = member_of c comm of passed
+    sends_inside c purpose.Open sync buffer count dest tag comm of passed = member_of c comm of passed
+    sends_inside c (purpose.Start handle) sync buffer count dest tag comm of passed =
+        subst (λ (t : Transfer). IsInside site t) of.2 (inside handle of.0 of.1)
 
-  pending_asks : (p : Pending) → AsksInside (asked_pending p)
-  pending_asks pending.Nothing = tt
-  pending_asks pending.FromNull = tt
-  pending_asks (pending.Message post buffer capacity) = tt
-  pending_asks (pending.Word post) = tt
-
-  awaited_asks : (m : Manner) (a : Awaited) → AsksInside (asked_awaited m a)
-  awaited_asks m awaits.Nothing = tt
-  awaited_asks Immediate awaits.Unready = tt
-  awaited_asks Blocking awaits.Unready = tt
-  awaited_asks Polling awaits.Unready = tt
-  awaited_asks Posting awaits.Unready = tt
-  awaited_asks m (awaits.Taking link part) = tt
-  awaited_asks m (awaits.Cut link) = tt
-  awaited_asks m (awaits.Box link box) = tt
-
-  completing_asks : (m : Manner) (a : Option Awaited) (p : Pending) → AsksInside (asked_completing m a p)
-  completing_asks m None p = pending_asks p
-  completing_asks m (Some a) p = awaited_asks m a
-
-  all_asks : (posts : List ℕ) → AsksInside (asked_all posts)
-  all_asks [] = tt
-  all_asks (post ∷ posts) = tt
-
-  ready_asks : (memory : Memory) (part : ℕ) (o : Option Partitions) → AsksInside (asked_ready site memory part o)
-  ready_asks memory part None = tt
-  ready_asks memory part (Some side) = tt
-
-  arrived_asks : (phases : List Phase) (part : ℕ) (o : Option Partitions) → AsksInside (asked_arrived phases part o)
-  arrived_asks phases part None = tt
-  arrived_asks phases part (Some side) = awaited_asks Immediate _
-
-  poll_asks : (c : Call) (post : ℕ) → AsksInside (asked_poll c post)
-  poll_asks (call.Ssend s) post = tt
-  poll_asks _ post = tt
-
-  -- ---- calls that passed the checks
-
-  inside_send : (null : Bool) (sync : Bool) (buffer count dest tag comm : ℕ) → is_comm site (Some comm) ≡ true
-      → IsInside site (if null then transfer.SendToNull else transfer.Send sync buffer count dest tag comm)
-  inside_send true sync buffer count dest tag comm its = tt
-  inside_send false sync buffer count dest tag comm its = its
-
-  inside_receive : (null : Bool) (buffer capacity : ℕ) (source tag : Option ℕ) (comm : ℕ)
-      → IsInside site (if null then transfer.ReceiveFromNull else transfer.Receive buffer capacity source tag comm)
-  inside_receive true buffer capacity source tag comm = tt
-  inside_receive false buffer capacity source tag comm = tt
-
-  inside_claimed : (null : Bool) (buffer capacity : ℕ)
-      → IsInside site (if null then transfer.ReceiveFromNull else transfer.ReceiveClaimed buffer capacity)
-  inside_claimed true buffer capacity = tt
-  inside_claimed false buffer capacity = tt
-
-  sent : (sync : Bool) (s : Sending) → is_comm site (Some s.comm) ≡ true → IsInside site (send_of site sync s)
-  sent sync s its = inside_send (s.dest == no_rank) sync s.buffer s.count _ s.tag s.comm its
-
-  module _ (hart : ℕ) (memory : Memory) (table : Table) (phases : List Phase) (inside : AreInside site table) where
-    call_fits : (c : Call) → is_comm site (needs_of c).comm ≡ true → RowFits (row_of site hart memory table phases c)
-    call_fits (call.Send s) its = begins_fits purpose.Send (send_of site false s) (sent false s its)
-    call_fits (call.Ssend s) its = begins_fits purpose.Send (send_of site true s) (sent true s its)
-    call_fits (call.Recv r status) its = if_fits (r.source == no_rank) _ _ tt tt
-    call_fits (call.Isend s) its = begins_fits purpose.Open (send_of site false s) (sent false s its)
-    call_fits (call.Issend s) its = begins_fits purpose.Open (send_of site true s) (sent true s its)
-    call_fits (call.Irecv r) its =
-        begins_fits purpose.Open (receive_of site r)
-        (inside_receive (r.source == no_rank) r.buffer r.capacity _ _ r.comm)
-    call_fits (call.Test c) its = completing_fits Immediate c _ (request_at table c.handle)
-    call_fits (call.Wait c) its = completing_fits Blocking c _ (request_at table c.handle)
-    call_fits (call.Iprobe p) its = if_fits (p.source == no_rank) _ _ tt tt
-    call_fits (call.Probe p) its = if_fits (p.source == no_rank) _ _ tt tt
-    call_fits (call.Improbe p) its = if_fits (p.source == no_rank) _ _ tt tt
-    call_fits (call.Mprobe p) its = if_fits (p.source == no_rank) _ _ tt tt
-    call_fits (call.Imrecv m) its =
-        begins_fits purpose.Open (claimed_of m) (inside_claimed (m.message == no_message) m.buffer m.capacity)
-    call_fits (call.Mrecv m status) its = if_fits (m.message == no_message) _ _ tt tt
-    call_fits (call.SendInit s) its = sent false s its
-    call_fits (call.RecvInit r) its = inside_receive (r.source == no_rank) r.buffer r.capacity _ _ r.comm
-    call_fits (call.Start handle) its = starts_fits handle (request_at table handle) (λ r e. inside handle r e)
-    call_fits (call.Testall s) its = gathers_fits Immediate s _
-    call_fits (call.Waitall s) its = gathers_fits Blocking s _
-    call_fits (call.Pready handle part) its = ready_fits part (sending_side (request_at table handle))
-    call_fits (call.Parrived handle part) its = arrived_fits phases part (receiving_side (request_at table handle))
-    call_fits _ its = tt
-
-    call_asks : (c : Call) → is_comm site (needs_of c).comm ≡ true → AsksInside (asked_by site memory table phases c)
-    call_asks (call.Send s) its = transfer_asks memory true (send_of site false s) (sent false s its)
-    call_asks (call.Ssend s) its = transfer_asks memory true (send_of site true s) (sent true s its)
-    call_asks (call.Recv r status) its =
-        transfer_asks memory true (receive_of site r)
-        (inside_receive (r.source == no_rank) r.buffer r.capacity _ _ r.comm)
-    call_asks (call.Isend s) its = transfer_asks memory false (send_of site false s) (sent false s its)
-    call_asks (call.Issend s) its = transfer_asks memory false (send_of site true s) (sent true s its)
-    call_asks (call.Irecv r) its =
-        transfer_asks memory false (receive_of site r)
-        (inside_receive (r.source == no_rank) r.buffer r.capacity _ _ r.comm)
-    call_asks (call.Test c) its = completing_asks Immediate (awaited phases (request_at table c.handle)) _
-    call_asks (call.Wait c) its = completing_asks Blocking (awaited phases (request_at table c.handle)) _
-    call_asks (call.Iprobe p) its = if_asks (p.source == no_rank) _ _ tt tt
-    call_asks (call.Probe p) its = if_asks (p.source == no_rank) _ _ tt tt
-    call_asks (call.Improbe p) its = if_asks (p.source == no_rank) _ _ tt tt
-    call_asks (call.Mprobe p) its = if_asks (p.source == no_rank) _ _ tt tt
-    call_asks (call.Imrecv m) its = if_asks (m.message == no_message) _ _ tt tt
-    call_asks (call.Mrecv m status) its = if_asks (m.message == no_message) _ _ tt tt
-    call_asks (call.Start handle) its = start_asks memory (request_at table handle) (λ r e. inside handle r e)
-    call_asks (call.Testall s) its = all_asks _
-    call_asks (call.Waitall s) its = all_asks _
-    call_asks (call.Pready handle part) its = ready_asks memory part (sending_side (request_at table handle))
-    call_asks (call.Parrived handle part) its = arrived_asks phases part (receiving_side (request_at table handle))
-    call_asks _ its = tt
-
--- the check of the communicator, of a call that goes on
-member_of : (site : Site) (part : Part) (c : Call) → HasPassed site part (Go c) → is_comm site (needs_of c).comm ≡ true
-member_of site part c passed = (((passed.1).1).1).1.0
+    fits : (hart : ℕ)
+        → Forms site hart part.memory part.requests part.phases
+        (λ started d asks row. HasPassed site part d → RowFits row × AsksInside asks)
+    fits hart = record {
+      steps = λ passed. (tt, tt);
+      refused = λ c passed. (tt, tt);
+      stopped = λ passed. (tt, tt);
+      polls_message = λ c post target passed. (tt, tt);
+      polls_send = λ c post passed. (tt, tt);
+      polls_other = λ c post passed. (tt, tt);
+      stays = λ passed. (tt, tt);
+      exits = λ value passed. (tt, tt);
+      puts = λ buffer count passed. (tt, tt);
+      ends = λ c end value passed. (tt, tt);
+      completes = λ c source target passed. (tt, tt);
+      completes_all = λ c value s of passed. (tt, tt);
+      finds_nothing = λ c value status passed. (tt, tt);
+      arrives = λ c side target passed. (tt, tt);
+      holds = λ c passed. (tt, tt);
+      makes = λ c t of none passed. (opens_inside c t of passed, tt);
+      opens = λ c t of none passed. (opens_inside c t of passed, tt);
+      starts = λ handle passed. (tt, tt);
+      begins = λ handle link passed. (tt, tt);
+      frees = λ handle passed. (tt, tt);
+      sends = λ c why sync buffer count dest tag comm is of passed.
+          (let its = sends_inside c why sync buffer count dest tag comm of passed in (its, its));
+      receives = λ c why now buffer capacity source tag comm is passed. (tt, tt);
+      receives_claimed = λ c buffer capacity message passed. (tt, tt);
+      starts_claimed = λ handle buffer capacity passed. (tt, tt);
+      comes = λ c comm source tag target passed. (tt, tt);
+      comes_claimed = λ c message target passed. (tt, tt);
+      links_sending = λ t passed. (tt, tt);
+      links_receiving = λ t passed. (tt, tt);
+      collects = λ c m post target passed. (tt, tt);
+      finishes = λ c m post target passed. (tt, tt);
+      gathers = λ c m value s post posts of passed. (tt, tt);
+      sees = λ c m comm source tag value status passed. (tt, tt);
+      claims = λ c m comm source tag status passed. (tt, tt);
+      cuts = λ c m link going unknown passed. (tt, tt);
+      readies = λ handle ready side is passed. (tt, tt);
+      frees_part = λ c m link free target going next ready passed. (tt, tt);
+      takes = λ c m side box target going next passed. (tt, tt);
+      looks = λ c side box asked going next passed. (tt, tt);
+    }
 
 turn_fits : (site : Site) (hart : ℕ) (part : Part) (d : Doing) → HasPassed site part d → AreInside site part.requests
     → RowFits site (row_in site hart part.memory part.requests part.phases d)
-turn_fits site hart part Step passed inside = tt
-turn_fits site hart part (Refused code) passed inside = tt
-turn_fits site hart part (Go c) passed inside =
-    call_fits site hart part.memory part.requests part.phases inside c (member_of site part c passed)
-turn_fits site hart part (Poll c post) passed inside = polled_fits c
-  where
-    polled_fits : (c : Call) → Wants site (polled c)
-    polled_fits (call.Recv r status) = tt
-    polled_fits (call.Mrecv m status) = tt
-    polled_fits (call.Ssend s) = tt
-    polled_fits _ = tt
-turn_fits site hart part Stopped passed inside = tt
-
-turn_asks : (site : Site) (part : Part) (d : Doing) → HasPassed site part d → AreInside site part.requests
-    → AsksInside site (asked_in site part.memory part.requests part.phases d)
-turn_asks site part Step passed inside = tt
-turn_asks site part (Refused code) passed inside = tt
-turn_asks site part (Go c) passed inside =
-    call_asks site 0 part.memory part.requests part.phases inside c (member_of site part c passed)
-turn_asks site part (Poll c post) passed inside = poll_asks site c post
-turn_asks site part Stopped passed inside = tt
+    × AsksInside site (asked_in site part.memory part.requests part.phases d)
+turn_fits site hart part d passed inside =
+    by_form site hart part.memory part.requests part.phases _ (fits site part inside hart) d passed
 
 kept_inside : (rank : Rank) (hart stamp : ℕ) (a : Answer) → AreInside rank.site rank.requests
     → AreInside rank.site (told rank hart a stamp).requests
@@ -630,16 +460,16 @@ unfolding told
 kept_inside rank hart stamp a inside =
     let part = part_of rank hart in
     keeps_row rank.site _ a part
-    (turn_fits rank.site hart part (doing rank.site part) (passed rank.site part) inside) inside
+    (turn_fits rank.site hart part (doing rank.site part) (passed rank.site part) inside).0 inside
 
-sends_inside : (rank : Rank) (hart comm dest tag : ℕ) (sync : Bool) (bytes : List ℕ)
+asks_inside : (rank : Rank) (hart comm dest tag : ℕ) (sync : Bool) (bytes : List ℕ)
     → AreInside rank.site rank.requests → asked rank hart ≡ ask.Hub (request.Send sync comm dest tag bytes)
     → is_comm rank.site (Some comm) ≡ true
 unfolding asked
-sends_inside rank hart comm dest tag sync bytes inside asks =
+asks_inside rank hart comm dest tag sync bytes inside asks =
     let part = part_of rank hart in
     subst (λ (a : Ask). AsksInside rank.site a) asks
-    (turn_asks rank.site part (doing rank.site part) (passed rank.site part) inside)
+    (turn_fits rank.site hart part (doing rank.site part) (passed rank.site part) inside).1
 
 none_open : (site : Site) → AreInside site no_requests
 none_open site zero r there = absurd (cc)
@@ -651,4 +481,4 @@ none_open site (suc k) r there = absurd (let no = sym (all_none 255 k) ∙ there
     all_none (suc n) (suc k) = all_none n k
 
 pub members_law : MembersLaw
-members_law = record { first = none_open; kept = kept_inside; sends = sends_inside }
+members_law = record { first = none_open; kept = kept_inside; sends = asks_inside }
