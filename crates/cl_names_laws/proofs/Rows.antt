@@ -1,47 +1,39 @@
 -- The row of a call holds no names of posts, so it is the same by other names.
-use Rattle.std.proofs.Common.{◌≡◌, ◌∙◌, ℕ, refl, sym, ap, Bool, true, false, List, [], ◌∷◌, map, Option, Some, None}
-use Rattle.std.specs.Prelude.{◌==◌, if◌then◌else◌}
+use Rattle.std.proofs.Common.{◌≡◌, ◌∙◌, ℕ, refl, sym, ap, List, [], ◌∷◌, map, Option, Some, None}
 use Rattle.std.specs.Option.{option_map}
 use Rattle.rv_memory.specs.Memory.{Memory}
 use Rattle.mp_request.specs.declared.entries.OpenRequest.{OpenRequest}
-use Rattle.mp_request.specs.declared.entries.Partitions.{Partitions}
 use Rattle.mp_request.specs.declared.entries.Progress.{Progress}
 use Rattle.mp_request.specs.declared.entries.Progress.TheVariants as progress
 use Rattle.mp_request.specs.declared.entries.State.TheVariants as state
 use Rattle.mp_request.specs.declared.entries.Transfer.{Transfer}
-use Rattle.mp_request.specs.declared.entries.Transfer.TheVariants as transfer
 use Rattle.mp_request.specs.Table.{Table, request_at}
 use Rattle.part_phase.specs.declared.phases.Phase.{Phase}
-use Rattle.part_phase.specs.Phases.{receiving_at}
 use Rattle.cl_calls.specs.declared.calls.Call.{Call}
 use Rattle.cl_calls.specs.declared.calls.Call.TheVariants as call
 use Rattle.cl_calls.specs.declared.calls.Completing.{Completing}
 use Rattle.cl_calls.specs.declared.calls.Several.{Several}
 use Rattle.cl_calls.specs.declared.sites.Site.{Site}
-use Rattle.cl_calls.specs.Calls.{no_message, no_rank}
-use Rattle.cl_calls.specs.Checks.{receiving_side, sending_side}
 use Rattle.cl_calls.specs.Handles.{handles_in}
 use Rattle.cl_calls.specs.Needs.{array_at}
 use Rattle.cl_state.specs.declared.asking.Doing.{Doing}
 use Rattle.cl_state.specs.declared.asking.Doing.TheVariants.{Step, Refused, Go, Poll, Stopped}
 use Rattle.cl_state.specs.declared.partitions.Awaited.{Awaited}
-use Rattle.cl_state.specs.declared.partitions.Awaited.TheVariants as awaited_word
 use Rattle.cl_state.specs.declared.pending.Manner.{Manner}
 use Rattle.cl_state.specs.declared.pending.Manner.TheVariants.{Immediate, Blocking}
 use Rattle.cl_state.specs.declared.pending.Pending.{Pending}
 use Rattle.cl_state.specs.declared.pending.Pending.TheVariants as pending
-use Rattle.cl_state.specs.declared.pending.Target.{Target}
 use Rattle.cl_state.specs.declared.row.Outcome.{Outcome}
 use Rattle.cl_state.specs.declared.row.Outcome.TheVariants as outcome
 use Rattle.cl_state.specs.declared.row.Purpose.{Purpose}
 use Rattle.cl_state.specs.declared.row.Purpose.TheVariants as purpose
 use Rattle.cl_state.specs.declared.row.Row.{Row}
 use Rattle.cl_state.specs.declared.row.Row.TheVariants.{AtOnce}
-use Rattle.cl_state.specs.Partitions.{awaited, awaited_of_part}
+use Rattle.cl_state.specs.Partitions.{awaited}
 use Rattle.cl_state.specs.Pending.{pending_of}
 use Rattle.cl_state.specs.Several.{has_posts, pendings, posts_pending}
-use Rattle.cl_state.specs.Table.{begins, begun_outcome, completes, completing, concludes, gathers, holds_by, row_arrived, row_awaited, row_completing, row_in, row_of, row_of_part, row_ready, starts, takes}
-use Rattle.cl_state.specs.Transfers.{claimed_of, receive_of, send_of}
+use Rattle.cl_state.specs.Table.{begun_outcome, completes, gathers, row_arrived, row_completing, row_in, row_of, row_ready, starts}
+use Rattle.cl_state.proofs.Forms.{by_form}
 use Rattle.mp_alike_laws.specs.Renaming.{Renaming, number_by}
 use Rattle.cl_names_laws.specs.Named.{open_with, progress_with, table_with}
 use Rattle.cl_names_laws.proofs.Tables.{receiving_named, request_named, sending_named}
@@ -135,109 +127,46 @@ module _ (names : Renaming) (sends : ℕ → ℕ) where
   begun_fixed purpose.Open t p e = ap (λ x. (let r : OpenRequest = record { transfer = t; state = state.Ordinary x } in r)) e
   begun_fixed (purpose.Start handle) t p e = e
 
-  begins_fixed : (why : Purpose) (t : Transfer) → IsFixedRow (begins why t)
-  begins_fixed why transfer.SendToNull = begun_fixed why transfer.SendToNull progress.Finished refl
-  begins_fixed why transfer.ReceiveFromNull = begun_fixed why transfer.ReceiveFromNull progress.Finished refl
-  begins_fixed purpose.Send (transfer.SendPartitions side) = tt
-  begins_fixed purpose.Open (transfer.SendPartitions side) = tt
-  begins_fixed (purpose.Start handle) (transfer.SendPartitions side) = tt
-  begins_fixed purpose.Send (transfer.ReceivePartitions side) = tt
-  begins_fixed purpose.Open (transfer.ReceivePartitions side) = tt
-  begins_fixed (purpose.Start handle) (transfer.ReceivePartitions side) = tt
-  begins_fixed why (transfer.Send sync buffer count dest tag comm) = tt
-  begins_fixed why (transfer.Receive buffer capacity source tag comm) = tt
-  begins_fixed why (transfer.ReceiveClaimed buffer capacity) = tt
-
-  if_fixed : (b : Bool) (x y : Row) → IsFixedRow x → IsFixedRow y → IsFixedRow (if b then x else y)
-  if_fixed true x y e f = e
-  if_fixed false x y e f = f
-
-  completes_fixed : (m : Manner) (c : Completing) (p : Pending) → IsFixedRow (completes m c p)
-  completes_fixed m c pending.Nothing = tt
-  completes_fixed m c pending.FromNull = tt
-  completes_fixed m c (pending.Message post buffer capacity) = tt
-  completes_fixed m c (pending.Word post) = tt
-
-  concludes_fixed : (t : Transfer) (target : Target) → IsFixed (concludes t target)
-  concludes_fixed (transfer.ReceivePartitions side) target = tt
-  concludes_fixed _ target = tt
-
-  holds_fixed : (m : Manner) → IsFixed (holds_by m)
-  holds_fixed Immediate = tt
-  holds_fixed _ = tt
-
-  takes_fixed : (m : Manner) (t : Transfer) (box : ℕ) (target : Target) → IsFixedRow (takes m t box target)
-  takes_fixed m (transfer.ReceivePartitions side) box target = tt
-  takes_fixed m _ box target = tt
-
-  awaited_fixed : (m : Manner) (t : Transfer) (target : Target) (a : Awaited) → IsFixedRow (row_awaited m t target a)
-  awaited_fixed m t target awaited_word.Nothing = concludes_fixed t target
-  awaited_fixed m t target awaited_word.Unready = holds_fixed m
-  awaited_fixed m t target (awaited_word.Taking link part) = tt
-  awaited_fixed m t target (awaited_word.Cut link) = tt
-  awaited_fixed m t target (awaited_word.Box link box) = takes_fixed m t box target
-
-  completing_fixed : (m : Manner) (c : Completing) (a : Option Awaited) (o : Option OpenRequest)
-      → IsFixedRow (row_completing m c a o)
-  completing_fixed m c (Some a) (Some r) = awaited_fixed m r.transfer (completing m c 0 0) a
-  completing_fixed m c (Some a) None = completes_fixed m c (pending_of None)
-  completing_fixed m c None o = completes_fixed m c (pending_of o)
-
-  starts_fixed : (handle : ℕ) (o : Option OpenRequest) → IsFixedRow (starts handle o)
-  starts_fixed handle None = tt
-  starts_fixed handle (Some r) = begins_fixed (purpose.Start handle) r.transfer
-
-  ready_fixed : (part : ℕ) (o : Option Partitions) → IsFixedRow (row_ready part o)
-  ready_fixed part None = tt
-  ready_fixed part (Some side) = tt
-
-  of_part_fixed : (side : Partitions) (part : ℕ) (a : Awaited) → IsFixedRow (row_of_part side part a)
-  of_part_fixed side part awaited_word.Nothing = tt
-  of_part_fixed side part awaited_word.Unready = tt
-  of_part_fixed side part (awaited_word.Taking link p) = tt
-  of_part_fixed side part (awaited_word.Cut link) = tt
-  of_part_fixed side part (awaited_word.Box link box) = tt
-
-  arrived_fixed : (phases : List Phase) (part : ℕ) (o : Option Partitions) → IsFixedRow (row_arrived phases part o)
-  arrived_fixed phases part None = tt
-  arrived_fixed phases part (Some side) =
-      of_part_fixed side part (awaited_of_part side.link (receiving_at phases side.link) part)
-
-  call_fixed : (site : Site) (hart : ℕ) (memory : Memory) (table : Table) (phases : List Phase) (c : Call)
-      → IsFixedRow (row_of site hart memory table phases c)
-  call_fixed site hart memory table phases (call.Send s) = begins_fixed purpose.Send (send_of site false s)
-  call_fixed site hart memory table phases (call.Ssend s) = begins_fixed purpose.Send (send_of site true s)
-  call_fixed site hart memory table phases (call.Recv r status) = if_fixed (r.source == no_rank) _ _ tt tt
-  call_fixed site hart memory table phases (call.Isend s) = begins_fixed purpose.Open (send_of site false s)
-  call_fixed site hart memory table phases (call.Issend s) = begins_fixed purpose.Open (send_of site true s)
-  call_fixed site hart memory table phases (call.Irecv r) = begins_fixed purpose.Open (receive_of site r)
-  call_fixed site hart memory table phases (call.Test c) =
-      completing_fixed Immediate c (awaited phases (request_at table c.handle)) (request_at table c.handle)
-  call_fixed site hart memory table phases (call.Wait c) =
-      completing_fixed Blocking c (awaited phases (request_at table c.handle)) (request_at table c.handle)
-  call_fixed site hart memory table phases (call.Iprobe p) = if_fixed (p.source == no_rank) _ _ tt tt
-  call_fixed site hart memory table phases (call.Probe p) = if_fixed (p.source == no_rank) _ _ tt tt
-  call_fixed site hart memory table phases (call.Improbe p) = if_fixed (p.source == no_rank) _ _ tt tt
-  call_fixed site hart memory table phases (call.Mprobe p) = if_fixed (p.source == no_rank) _ _ tt tt
-  call_fixed site hart memory table phases (call.Imrecv m) = begins_fixed purpose.Open (claimed_of m)
-  call_fixed site hart memory table phases (call.Mrecv m status) = if_fixed (m.message == no_message) _ _ tt tt
-  call_fixed site hart memory table phases (call.SendInit s) = refl
-  call_fixed site hart memory table phases (call.RecvInit r) = refl
-  call_fixed site hart memory table phases (call.Start handle) = starts_fixed handle (request_at table handle)
-  call_fixed site hart memory table phases (call.Testall s) =
-      if_fixed (has_posts (posts_pending (pendings table (handles_in memory (array_at s.array s.count))))) _ _ tt tt
-  call_fixed site hart memory table phases (call.Waitall s) =
-      if_fixed (has_posts (posts_pending (pendings table (handles_in memory (array_at s.array s.count))))) _ _ tt tt
-  call_fixed site hart memory table phases (call.Pready handle part) =
-      ready_fixed part (sending_side (request_at table handle))
-  call_fixed site hart memory table phases (call.Parrived handle part) =
-      arrived_fixed phases part (receiving_side (request_at table handle))
-  call_fixed site hart memory table phases _ = tt
-
   pub row_fixed : (site : Site) (hart : ℕ) (memory : Memory) (table : Table) (phases : List Phase) (d : Doing)
       → IsFixedRow (row_in site hart memory table phases d)
-  row_fixed site hart memory table phases Step = tt
-  row_fixed site hart memory table phases (Refused code) = tt
-  row_fixed site hart memory table phases (Go c) = call_fixed site hart memory table phases c
-  row_fixed site hart memory table phases (Poll c post) = tt
-  row_fixed site hart memory table phases Stopped = tt
+  row_fixed site hart memory table phases = by_form site hart memory table phases (λ started d asks row. IsFixedRow row)
+      (record {
+        steps = tt;
+        refused = λ c. tt;
+        stopped = tt;
+        polls_message = λ c post target. tt;
+        polls_send = λ c post. tt;
+        polls_other = λ c post. tt;
+        stays = tt;
+        exits = λ value. tt;
+        puts = λ buffer count. tt;
+        ends = λ c end value. tt;
+        completes = λ c source target. tt;
+        completes_all = λ c value s of. tt;
+        finds_nothing = λ c value status. tt;
+        arrives = λ c side target. tt;
+        holds = λ c. tt;
+        makes = λ c t of none. refl;
+        opens = λ c t of none. refl;
+        starts = λ handle. refl;
+        begins = λ handle link. tt;
+        frees = λ handle. tt;
+        sends = λ c why sync buffer count dest tag comm is of. tt;
+        receives = λ c why now buffer capacity source tag comm is. tt;
+        receives_claimed = λ c buffer capacity message. tt;
+        starts_claimed = λ handle buffer capacity. tt;
+        comes = λ c comm source tag target. tt;
+        comes_claimed = λ c message target. tt;
+        links_sending = λ t. tt;
+        links_receiving = λ t. tt;
+        collects = λ c m post target. tt;
+        finishes = λ c m post target. tt;
+        gathers = λ c m value s post posts of. tt;
+        sees = λ c m comm source tag value status. tt;
+        claims = λ c m comm source tag status. tt;
+        cuts = λ c m link going unknown. tt;
+        readies = λ handle part side is. tt;
+        frees_part = λ c m link free target going next ready. tt;
+        takes = λ c m side box target going next. tt;
+        looks = λ c side box part going next. tt;
+      })
