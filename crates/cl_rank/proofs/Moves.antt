@@ -1,5 +1,5 @@
 -- What each turn makes of a rank: its sides go with its phases again, and its keys move by the act.
-use Rattle.std.proofs.Common.{◌≡◌, ℕ, zero, suc, ◌<◌, ◌≤◌, List, [], ◌∷◌, length, Bool, true, false, Option, Some, None}
+use Rattle.std.proofs.Common.{◌≡◌, ℕ, zero, suc, ◌<◌, ◌≤◌, List, [], ◌∷◌, Bool, true, false, Option, Some, None}
 use Rattle.std.proofs.Common.{refl, sym, ap, subst, ◌∙◌, rules}
 use Rattle.std.specs.Prelude.{map, not, option_map, nat_le, nat_lt, if◌then◌else◌}
 use Rattle.rv_image_types.specs.declared.images.ImageVersion.{ImageVersion}
@@ -21,12 +21,13 @@ use Rattle.cl_state.specs.declared.asking.Answer.TheVariants as answer
 use Rattle.cl_state.specs.declared.asking.Ask.{Ask}
 use Rattle.cl_state.specs.declared.row.Row.{Row}
 use Rattle.cl_state.specs.Asked.{asked, doing, part_of}
+use Rattle.cl_state.specs.Moves.{started_in}
 use Rattle.cl_state.specs.Rank.{Rank}
 use Rattle.cl_state.specs.Table.{row_in}
 use Rattle.cl_state.specs.Told.{told, told_row}
+use Rattle.cl_state.proofs.Passed.{passed}
 use Rattle.cl_deeds.specs.Deeds.{Act, Suits, request_of}
 use Rattle.cl_rank.specs.Fitting.{RequestsFit}
-use Rattle.cl_rank.specs.Follows.{started_link}
 use Rattle.cl_sides.specs.Sides.{AreChannelsOf, AreSides, PhaseFits, Sides, phase_of_receiver}
 use Rattle.cl_rank.specs.RankSides.{KeysMove}
 use Rattle.cl_sides.specs.Sides.{phase_of_sender, receiver_key, sender_key, side_of, sides_in}
@@ -35,7 +36,7 @@ use Rattle.cl_sides.specs.Steps.{begun_at, begun_receiver, begun_sender, changed
 use Rattle.cl_rank.proofs.Answered.{alone_becomes, begun_at as begun_phases}
 use Rattle.cl_rank.proofs.Kept.{kept, owned, past_later}
 use Rattle.cl_rank.proofs.Keys.{keys_stay, receivers_stay, senders_stay, somewhere}
-use Rattle.cl_rank.proofs.Rows.{AloneRow, RowFits, doing_passed, row_fits}
+use Rattle.cl_rank.proofs.Rows.{AloneRow, RowFits, row_fits}
 use Rattle.cl_rank.proofs.Tables.{Keeps}
 
 -- ---- the row of a turn
@@ -44,14 +45,13 @@ abbrev pub row_at : Rank → ℕ → Row
 row_at r hart = row_in r.site hart r.memory r.requests r.phases (doing r.site (part_of r hart))
 
 abbrev pub started_at : Rank → ℕ → Option ℕ
-started_at r hart = started_link r.requests (doing r.site (part_of r hart))
+started_at r hart = started_in r.requests (doing r.site (part_of r hart))
 
 pub fits_at : (r : Rank) (hart : ℕ)
     → RowFits r.site.version r.requests r.phases (started_at r hart) (asked r hart) (row_at r hart)
 unfolding asked
 fits_at r hart =
-    row_fits r.site hart r.memory r.requests r.phases (length r.out) (doing r.site (part_of r hart))
-    (doing_passed r.site (part_of r hart))
+    row_fits r.site hart (part_of r hart) (doing r.site (part_of r hart)) (passed r.site (part_of r hart))
 
 -- what is told is what the row does with the answer
 pub record ToldBy (old : Rank) (hart : ℕ) (a : Answer) (stamp : ℕ) (new : Rank) : Type 0 where

@@ -15,13 +15,13 @@ use Rattle.cl_state.specs.declared.asking.Answer.TheVariants as answer
 use Rattle.cl_state.specs.declared.asking.Ask.TheVariants as ask
 use Rattle.cl_state.specs.declared.state.RankState.{RankState}
 use Rattle.cl_state.specs.Asked.{asked}
+use Rattle.cl_state.specs.Moves.{started_in}
 use Rattle.cl_state.specs.Rank.{Rank}
 use Rattle.cl_state.specs.Room.{rank_of}
 use Rattle.cl_state.specs.Told.{told}
 use Rattle.cl_rank.specs.declared.ranks.Rank.{Rank as Running}
 use Rattle.cl_rank.specs.declared.turning.Turn.{Turn}
 use Rattle.cl_deeds.specs.Deeds.{Act, Suits, Deed, IsStamp, answer_of, kind_of, request_of}
-use Rattle.cl_rank.specs.Follows.{started_link}
 use Rattle.cl_rank.specs.Sides.{box_id_of}
 use Rattle.cl_rank.specs.Fitting.{RequestsFit}
 use Rattle.cl_sides.specs.Sides.{AreChannelsOf, AreSides, Sides, sides_in}
@@ -146,12 +146,12 @@ module _ (r : Running) (t : Turn) (new : RankState) {kind : Kind} {link : Option
     {recvs : List (ℕ × RecvView)} where
   pub went_alone : MayTurn r t → (q : AsksNobody (asked (rank_of r.state) t.hart) kind)
       → rank_of new ≡ told (rank_of r.state) t.hart answer.Alone (r.state.clock + 1)
-      → link ≡ started_link r.state.requests t.doing
+      → link ≡ started_in r.state.requests t.doing
       → sends ≡ begun_at link begun_sender r.sends.items → recvs ≡ begun_at link begun_receiver r.recvs.items
       → Went r t.hart (r.state.clock + 1) q.act new (sides_in sends recvs)
   went_alone may q is named sent got =
       let started : link ≡ started_at (rank_of r.state) t.hart =
-      named ∙ ap (started_link r.state.requests) may.next.spelled in
+      named ∙ ap (started_in r.state.requests) may.next.spelled in
       let moved = alone_moved (rank_of r.state) (rank_of new) t.hart (r.state.clock + 1) q.act r.sends.items
       r.recvs.items r.sides r.fit q.answers q.nowhere q.quiet (omega arith) is in
       record {

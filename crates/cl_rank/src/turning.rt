@@ -8,10 +8,11 @@ ghost use Rattle.part_channel.specs.Channels.{ChannelView};
 ghost use Rattle.cl_state.specs.declared.asking.Ask.TheVariants as ask;
 ghost use Rattle.cl_state.specs.declared.asking.Answer.TheVariants.{Alone, Reply as AnswerReply};
 ghost use Rattle.cl_state.specs.Asked.{asked};
+ghost use Rattle.cl_state.specs.Moves.{started_in};
 ghost use Rattle.cl_state.specs.Room.{rank_of};
 ghost use Rattle.cl_state.specs.Told.{told};
 ghost use Rattle.cl_state.specs.TurnRoom.{IsNext, row_at};
-ghost use Rattle.cl_rank.specs.Follows.{named_link as named_link_in, started_link};
+ghost use Rattle.cl_rank.specs.Follows.{named_link as named_link_in};
 ghost use Rattle.cl_rank.specs.QuickReceives.{Fits, MayReceive};
 ghost use Rattle.cl_rank.specs.QuickSends.{MaySend};
 ghost use Rattle.cl_rank.specs.Roomy.{IsAgain, is_anew as is_anew_in, repeats as repeats_in};
@@ -84,7 +85,7 @@ fn repeats(hart: &Hart, doing: &Doing) -> bool
 
 /// The link on which a call begins a phase, if it does.
 fn started(requests: &Requests, doing: &Doing) -> Option<u8>
-    ensures { result ≡ started_link requests.now doing.now }
+    ensures { result ≡ started_in requests.now doing.now }
 {
     let Doing::Go(Call::Start { handle }) = doing else {
         return None;
