@@ -1,12 +1,13 @@
 -- How a turn of a running rank ends that was taken, by what it leaves and what it told the desk.
 use Rattle.std.proofs.Common.{◌≡◌, ◌∙◌, ℕ, List, false, length, subst, true}
-use Rattle.std.specs.Prelude.{Ok}
+use Rattle.std.specs.Prelude.{Ok, Result}
 use Rattle.mp_types.specs.declared.replies.Reply.{Reply}
 use Rattle.mp_types.specs.declared.requests.Request.{Request}
 use Rattle.part_channel.specs.Channels.{ChannelView}
 use Rattle.cl_state.specs.Rank.{Rank as RankAlone}
 use Rattle.cl_state.specs.Room.{rank_of}
 use Rattle.cl_rank.specs.declared.ranks.Rank.{Rank as Running}
+use Rattle.cl_rank.specs.declared.stops.Stop.{Stop}
 use Rattle.cl_deeds.specs.Deeds.{Deed}
 use Rattle.cl_rank.specs.Turning.{DeskRule, Tells}
 use Rattle.cl_deeds.specs.Turns.{AllStopped, IsActive, all_stopped}
@@ -57,6 +58,13 @@ module _ {D : Type 0} (gives : DeskRule D) (hart : ℕ) (old : Running) where
   call_ends channels request reply told stamp new desk left runs has own leaves same given =
       turn_ends channels _ new desk left (is_active old hart runs has) own leaves
       (subst (λ r. gives desk old.state.site.number hart old.state.clock request (Ok (r, stamp)) left) same given)
+
+-- the turn of a hart by another name
+pub by_hart : {D : Type 0} {gives : DeskRule D} {one hart : ℕ} {channels : List ChannelView} {old new : Running}
+    {desk left : D} {result : Result (Unit {0}) Stop} → one ≡ hart → TurnEnds gives one channels old desk result new left
+    → TurnEnds gives hart channels old desk result new left
+by_hart {D} {gives} {one} {hart} {channels} {old} {new} {desk} {left} {result} same ends =
+    subst (λ h. TurnEnds gives h channels old desk result new left) same ends
 
 -- a turn that was worked out behind its call, by a rank that stayed as it was
 pub worked_behind : {old same new : Running} {hart other : ℕ} (request : Request) (reply : Reply) (stamp : ℕ)

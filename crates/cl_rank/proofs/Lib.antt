@@ -21,6 +21,7 @@ pub mod Tables
 pub mod Taken
 pub mod Turned
 pub mod Went
+pub mod QuickHandles
 pub mod QuickReceives
 pub mod QuickSends
 pub mod Same

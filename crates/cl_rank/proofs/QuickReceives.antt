@@ -52,7 +52,7 @@ use Rattle.cl_deeds.specs.Deeds.{Act}
 use Rattle.cl_rank.specs.Fitting.{RequestsFit}
 use Rattle.cl_sides.specs.Sides.{AreSides, sides_in}
 use Rattle.cl_rank.specs.declared.ranks.Rank.{Rank as Running}
-use Rattle.cl_rank.specs.QuickReceives.{Fits, IsRoomyReceive, MayReceive, Receives, got_at, waits_at}
+use Rattle.cl_rank.specs.QuickReceives.{Fits, IsRightReceive, IsRoomyReceive, MayReceive, Receives, got_at, waits_at}
 use Rattle.cl_rank.proofs.Keys.{keys_stay}
 use Rattle.cl_rank.proofs.Moves.{Moved, later}
 use Rattle.cl_rank.proofs.Went.{Went}
@@ -69,7 +69,7 @@ few_enough : (n : ℕ) → n ≤ 4096 → nat_le n 4096 ≡ true
 few_enough n few = grind (arith, few)
 
 no_fault : (site : Site) (memory : Memory) (table : Table) (phases : List Phase) (written : ℕ) (r : Receiving)
-    → IsRoomyReceive site memory r
+    → IsRightReceive site memory r
     → first_fault (checks site memory table phases written (needs_of (call.Recv r 0))) ≡ None
 no_fault site memory table phases written r right =
     let comm = right.0 in
@@ -81,7 +81,7 @@ no_fault site memory table phases written r right =
 
 does_receive : (site : Site) (part : Part) (at : State) (r : Receiving) → at ≡ part.hart → at.mode ≡ Runs
     → is_ecall (word_at part.memory at.pc) ≡ true → read at 17 ≡ 18 → read at 15 ≡ 0 → r ≡ receiving_by (argument at)
-    → IsRoomyReceive site part.memory r → doing site part ≡ Go (call.Recv r 0)
+    → IsRightReceive site part.memory r → doing site part ≡ Go (call.Recv r 0)
 unfolding doing
 does_receive site part at r here running ecall number none is right =
     let spelled : call_named part.hart ≡ call.Recv r 0 =
@@ -112,8 +112,8 @@ unfolding asked
 receives_so state hart at r q read_at there running ecall number none is right asks =
     let part = part_of (rank_of state) hart in
     let here = get_or_read_under state.harts.items hart (vec_len state.harts) at no_hart read_at there state.harts.ok.0 in
-    let goes = does_receive state.site part at r here running ecall number none is right in
-    let moves = ne_eqb r.source no_rank right.2 in
+    let goes = does_receive state.site part at r here running ecall number none is right.0 in
+    let moves = ne_eqb r.source no_rank right.0.2 in
     record {
       turn = goes;
       moves = moves;
@@ -121,7 +121,7 @@ receives_so state hart at r q read_at there running ecall number none is right a
           ∙ asks_receive state.memory (r.source == no_rank) r.buffer r.capacity r.comm
           (source_of state.site r.comm r.source) (tag_of r.tag) moves
           ∙ ap ask.Hub (sym asks);
-      pages = right.6;
+      pages = right.1;
     }
 
 -- ---- it needs no page more

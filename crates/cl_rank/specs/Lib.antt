@@ -8,5 +8,6 @@ pub mod Follows
 pub mod Turning
 pub mod Plains
 pub mod Views
+pub mod QuickHandles
 pub mod QuickReceives
 pub mod QuickSends

@@ -28,16 +28,20 @@ use Rattle.cl_state.specs.Written.{written}
 use Rattle.cl_rank.specs.declared.ranks.Rank.{Rank as Running}
 use Rattle.cl_rank.specs.Views.{HasTurn}
 
--- a receive from a member of its communicator, or any of them, whose checks hold and whose buffer's pages are there
-abbrev pub IsRoomyReceive : Site → Memory → Receiving → Type 0
-IsRoomyReceive site memory r =
+-- a receive from a member of its communicator, or any of them, whose checks hold
+abbrev pub IsRightReceive : Site → Memory → Receiving → Type 0
+IsRightReceive site memory r =
     IsTrue (is_comm site (Some r.comm))
     × IsTrue (is_peer site (Some r.comm) (Some (source r.source)))
     × (r.source ≢ no_rank)
     × IsTrue (is_tag (tag_or_any r.tag))
     × (r.capacity ≤ 4096)
     × IsTrue (is_buffer memory (writes r.buffer r.capacity))
-    × (missing_pages memory.pages r.buffer r.capacity ≡ 0)
+
+-- and whose buffer's pages are there
+abbrev pub IsRoomyReceive : Site → Memory → Receiving → Type 0
+IsRoomyReceive site memory r =
+    IsRightReceive site memory r × (missing_pages memory.pages r.buffer r.capacity ≡ 0)
 
 -- the turn of a hart is a RECV of this kind, which wants no status, and asks the hub this
 pub record Receives (s : RankState) (hart : ℕ) (r : Receiving) (request : Request) : Type 0 where

@@ -7,6 +7,7 @@
 mod agreeing;
 mod desks;
 mod plains;
+mod quick_handles;
 mod quick_receives;
 mod quick_sends;
 mod ranks;

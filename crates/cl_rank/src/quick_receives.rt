@@ -11,7 +11,7 @@ ghost use Rattle.cl_state.specs.Room.{rank_of};
 ghost use Rattle.cl_state.specs.Transfers.{source_of, tag_of};
 ghost use Rattle.cl_state.specs.Writes.{IsEnough, bytes_from};
 ghost use Rattle.cl_state.specs.Written.{written};
-ghost use Rattle.cl_rank.specs.QuickReceives.{Fits, IsRoomyReceive, Receives, got_at, waits_at};
+ghost use Rattle.cl_rank.specs.QuickReceives.{Fits, IsRightReceive, IsRoomyReceive, Receives, got_at, waits_at};
 
 use crate::quick_sends::return_ok;
 use cl_calls::{ANY, NO_RANK, Peer, RECV, Receiving, Site, position};
@@ -51,10 +51,10 @@ fn receiving_of(hart: &Hart) -> Receiving
     }
 }
 
-/// Whether a receive is right, doesn't name the null process, and the pages of its buffer are there.
+/// Whether a receive is right and doesn't name the null process.
 #[inline(always)]
-fn is_roomy(site: &Site, memory: &RankMemory, receiving: &Receiving) -> bool
-    ensures { IsTrue result → IsRoomyReceive site.now memory.now receiving.now }
+pub(crate) fn is_right(site: &Site, memory: &RankMemory, receiving: &Receiving) -> bool
+    ensures { IsTrue result → IsRightReceive site.now memory.now receiving.now }
 {
     let peer = Peer {
         rank: receiving.source,
@@ -67,18 +67,30 @@ fn is_roomy(site: &Site, memory: &RankMemory, receiving: &Receiving) -> bool
         && site.is_comm(Some(receiving.comm))
         && site.is_peer(Some(receiving.comm), Some(peer))
         && memory.in_range(receiving.buffer, receiving.capacity, true)
-        && memory.missing(receiving.buffer, receiving.capacity) == 0
 }
 
-/// What such a receive asks the hub.
+/// Whether it is, and the pages of its buffer are there.
 #[inline(always)]
-fn request_of(site: &Site, memory: &RankMemory, receiving: &Receiving) -> Request
-    requires { IsRoomyReceive site.now memory.now receiving.now }
-    ensures { result ≡ request.Recv true receiving.now.comm
+fn is_roomy(site: &Site, memory: &RankMemory, receiving: &Receiving) -> bool
+    ensures { IsTrue result → IsRoomyReceive site.now memory.now receiving.now }
+{
+    is_right(site, memory, receiving) && memory.missing(receiving.buffer, receiving.capacity) == 0
+}
+
+/// What such a receive asks the hub: its message now, or a post.
+#[inline(always)]
+pub(crate) fn request_of(
+    site: &Site,
+    memory: &RankMemory,
+    now: bool,
+    receiving: &Receiving,
+) -> Request
+    requires { IsRightReceive site.now memory.now receiving.now }
+    ensures { result ≡ request.Recv now receiving.now.comm
         (source_of site.now receiving.now.comm receiving.now.source) (tag_of receiving.now.tag) }
 {
     Request::Recv {
-        now: true,
+        now,
         comm: site.comm_number(receiving.comm),
         source: source(site, receiving.comm, receiving.source),
         tag: tag(receiving.tag),
@@ -102,7 +114,7 @@ pub(crate) fn received(state: &RankState, hart: u8) -> Option<(Receiving, Reques
     }
     Some((
         receiving,
-        request_of(&state.site, &state.memory, &receiving),
+        request_of(&state.site, &state.memory, true, &receiving),
     ))
 }
 

@@ -25,6 +25,7 @@ ghost use Rattle.cl_trace.specs.declared.events.Kind.TheVariants.{Hub};
 ghost use Rattle.cl_trace.specs.Rising.{last_stamp};
 
 use crate::desks::Desk;
+use crate::quick_handles::at_handle;
 use crate::quick_receives::{fits, received, tell_got, tell_waits};
 use crate::quick_sends::{sent, tell_sent};
 use crate::ranks::Rank;
@@ -268,7 +269,8 @@ impl Rank {
         self.worked_turn(channels, rt, desk, hart)
     }
 
-    /// A turn that is worked out by the table of calls.
+    /// A turn that is worked out before its call: an IRECV or a WAIT from the registers, if it can be, and any other by the
+    /// table of calls.
     fn worked_turn<R, D: Desk<R>>(
         &mut self,
         channels: &[Channel],
@@ -282,6 +284,10 @@ impl Rank {
         ensures { TurnEnds D.gives hart channels.now self.old desk.old result self.new desk.new }
     {
         self.roomy = None;
+        if let Some((turn, request)) = at_handle(&self.state, hart) {
+            self.state.fresh = Vec::new(self.alloc);
+            return self.call_hub(rt, desk, &turn, request);
+        }
         let doing = self.state.next(hart);
         let known = self.trace.posts_of(hart);
         let Ok(ask) = self.state.ask_again(hart, &doing, known) else {

@@ -1,12 +1,46 @@
 use Rattle.std.proofs.Common.{ap, refl, subst, sym, ◌∙◌}
 use Rattle.cl_state.specs.Rank.{Rank as RankAlone}
+use Rattle.cl_state.specs.declared.state.RankState.{RankState}
+use Rattle.cl_rank.specs.QuickHandles.{IsKnown}
 use Rattle.cl_sides.specs.Sides.{AreChannelsOf}
 use Rattle.cl_rank.specs.Views.{view_of}
+use Rattle.cl_rank.proofs.QuickHandles.{has_room}
 use Rattle.cl_rank.proofs.Asks.{asks_nothing_plain, asks_nothing_local, asks_nothing_held, asks_nothing_idle}
-use Rattle.cl_rank.proofs.Ends.{is_active}
+use Rattle.cl_rank.proofs.Ends.{by_hart, is_active}
 use Rattle.cl_rank.proofs.Same.{same_keeps}
 use Rattle.cl_rank.proofs.SameEnds.{quiet_ends, same_ends, seen}
 use Rattle.cl_rank.proofs.ranks.Rank.worked_turn.Goals as goal
+
+pub call_hub-requires-clause-may : goal.call_hub-requires-clause-may
+call_hub-requires-clause-may g c =
+    let has = c.requires.has in
+    let it = c.in-Some in
+    let old : RankState = c.args.self.now.state in
+    let new : RankState = record old { fresh = c.new.result } in
+    let was = it.ensures.known in
+    let at = was.next in
+    let turn : IsKnown new it.turn it.request = record {
+      next = record { there = at.there; spelled = at.spelled; right = at.right; running = at.running };
+      row = was.row;
+      asks_for = was.asks_for;
+      quiet = was.quiet;
+      pages = was.pages;
+    } in
+    record {
+      has = record { there = at.there; low = has.low; left = has.left; few = has.few; space = has.space };
+      next = turn.next;
+      row = turn.row;
+      room = has_room new it.turn it.request turn c.new.ensures.items;
+    }
+
+pub call_hub-requires-clause-asked : goal.call_hub-requires-clause-asked
+call_hub-requires-clause-asked g c = c.in-Some.ensures.known.asks_for
+
+pub returns-in-Some : goal.returns-in-Some
+returns-in-Some g c =
+    same_ends g.D.Desk.gives c.args.hart c.args.self.now c.args.channels.now _ refl refl refl c.call_hub.result
+    c.call_hub.new.self c.args.desk.now c.call_hub.new.desk (λ none. none)
+    (by_hart c.in-Some.ensures.hart (c.call_hub.ensures c.args.channels.now c.requires.own))
 
 pub go_alone-requires-clause-asked : goal.go_alone-requires-clause-asked
 go_alone-requires-clause-asked g c =
@@ -73,7 +107,7 @@ pub returns-in-Hub : goal.returns-in-Hub
 returns-in-Hub g c =
     same_ends g.D.Desk.gives c.args.hart c.args.self.now c.args.channels.now _
     (ap (seen c.args.self.now) c.in-Ok-lay_out.ensures.same) refl c.in-Ok-lay_out.ensures.harts
-    c.call_hub.result _ c.args.desk.now c.call_hub.new.desk (λ none. none)
-    (c.call_hub.ensures c.args.channels.now
+    c.call_hub-in-Hub.result _ c.args.desk.now c.call_hub-in-Hub.new.desk (λ none. none)
+    (c.call_hub-in-Hub.ensures c.args.channels.now
     (subst (λ (r : RankAlone). AreChannelsOf r.site.version c.args.channels.now (view_of c.args.self.now).sides)
     (sym c.in-Ok-lay_out.ensures.same) c.requires.own))
