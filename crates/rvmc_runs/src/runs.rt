@@ -27,6 +27,7 @@ use rvmc_answers::{Answer, End, Output, reported};
 use rvmc_line::Written;
 use rvmc_words::Numbers;
 use std::alloc::{AllocError, Global};
+use std::mem::forget;
 use std::sync::Wait;
 use std::thread::Threads;
 
@@ -45,7 +46,8 @@ pub(crate) fn record_of(
     RecordText::new(alloc, image, steps)
 }
 
-/// What is told of a run: its report, alone or with what its harts wait for, or the text of its record.
+/// What is told of a run: its report, alone or with what its harts wait for, or the text of its record. The record of a
+/// report isn't taken apart: it has an entry for each call, and stays until the process ends.
 fn output_of(
     alloc: Global,
     image: &Image,
@@ -61,7 +63,10 @@ fn output_of(
     match written {
         Written::Report => {
             let waits = any_waits(&left);
-            Ok(reported(report(alloc, &left)?, spent, waits))
+            let output = reported(report(alloc, &left)?, spent, waits);
+            // the process ends soon, and gives back all memory at once
+            forget(left);
+            Ok(output)
         }
         Written::Record => {
             let text = record_of(alloc, image, left)?;
