@@ -12,11 +12,11 @@ use Rattle.cl_explore.specs.declared.kept.KeptNode.{KeptNode}
 use Rattle.cl_replay.specs.States.{ClusterStandsFor}
 use Rattle.rvmc_report.specs.Report.{newline}
 use Rattle.rvmc_explore.specs.InnerOutcomes.{AreHeard, BeginsWith, IsHeard, IsNew, IsOutcomeOf, bodies_told}
-use Rattle.rvmc_explore.specs.Outcomes.{HasBody, IsEndBody, IsNeedBody}
+use Rattle.rvmc_explore.specs.Outcomes.{HasBody, IsEndBody, IsNeedBody, any_need}
 use Rattle.rvmc_explore.specs.Telling.{AddsOutcome, AddsOutcomes, IsBegun, Tells, outcome_number}
 use Rattle.rvmc_explore.specs.InnerTelling.{WereTold}
 use Rattle.rvmc_explore.specs.declared.outcomes.Outcome.{Outcome}
-use Rattle.rvmc_explore.proofs.Listed.{added_apart, end_outcome, was_or_added}
+use Rattle.rvmc_explore.proofs.Listed.{added_apart, end_outcome, needs_added, was_or_added}
 use Rattle.rvmc_explore.proofs.ToEnds.{heard_way}
 
 -- ---- an end that was heard of
@@ -95,6 +95,24 @@ heard_more order image old new outcome one is heard = record {
   ];
   apart = added_apart old new outcome one.new is heard.apart;
 }
+
+-- ---- where standard sends copy their messages
+
+-- nothing is told yet
+pub none_needed : (told : List Outcome) → told ≡ [] → any_need told ≡ false
+none_needed told none = ap any_need none
+
+-- an end more leaves it so
+pub none_needed_more : (buffered : Bool) (old new : List Outcome) (outcome : Outcome) → outcome.need ≡ false
+    → new ≡ old ++ outcome ∷ [] → (buffered ≡ true → any_need old ≡ false) → buffered ≡ true → any_need new ≡ false
+none_needed_more buffered old new outcome no_need is none copied =
+    needs_added old new outcome no_need is ∙ none copied
+
+-- where they may wait
+pub none_copied : (known asked : Bool) (told : List Outcome) → asked ≡ known → asked ≡ false → known ≡ true
+    → any_need told ≡ false
+none_copied known asked told same waits copied =
+    let no : true ≡ false = sym copied ∙ (sym same ∙ waits) in absurd (cc)
 
 -- ---- their texts
 

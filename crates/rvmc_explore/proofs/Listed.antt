@@ -1,9 +1,11 @@
 -- Outcomes, one behind another.
-use Rattle.std.specs.Prelude.{ℕ, zero, suc, ◌+◌, ◌^◌, ◌<◌, ◌≤◌, ◌≡◌, ◌⊎◌, List, [], ◌∷◌, ◌++◌, Bool, true, false, cond, drop, length, slice_get, slice_set, Some}
+use Rattle.std.specs.Prelude.{ℕ, zero, suc, ◌+◌, ◌^◌, ◌<◌, ◌≤◌, ◌≡◌, ◌⊎◌, ◌||◌, List, [], ◌∷◌, ◌++◌, Bool, true, false, cond, drop, length, slice_get, slice_set, Some}
 use Rattle.std.specs.Str.{bytes_eq}
 use Rattle.std.proofs.Common.{refl, sym, ap, ◌∙◌, subst, arith, drop-cons, inl, inr}
+use Rattle.std.proofs.Math.Bool.{or-false}
 use Rattle.std.proofs.lemmas.Bool.{cases_eq}
 use Rattle.std.proofs.lemmas.List.{append-nil, append_assoc, drop_all, length-append, map-append}
+use Rattle.std.proofs.lemmas.List.Recursion.{or_push}
 use Rattle.std.proofs.lemmas.List.Sums.{count_by-le-length, sum_by-cons, sum_by_push}
 use Rattle.std.proofs.lemmas.Option.{get_or_from_slice_get, same_Some, slice_get_within}
 use Rattle.std.proofs.lemmas.Slice.Eq.{bytes_eq-Decides}
@@ -22,7 +24,7 @@ use Rattle.cl_replay.specs.States.{ClusterStandsFor}
 use Rattle.rvmc_starts.specs.declared.parts.EndText.{EndText}
 use Rattle.rvmc_explore.specs.Ends.{IsEndText}
 use Rattle.rvmc_explore.specs.InnerOutcomes.{AddsEnd, AddsOne, AddsStuck, AreHeard, AreToldBeside, AreToldEnds, BeginsWith, HaveRoom, IsHeard, IsOutcomeOf, bodies_told, one_end_more}
-use Rattle.rvmc_explore.specs.Outcomes.{AreApart, AreCounted, AreTold, HasBody, IsEndBody, IsEndOutcome, IsNeedOutcome, IsOutcome, IsStuckBody, LeadThere, TellsStuck, ends_with}
+use Rattle.rvmc_explore.specs.Outcomes.{AreApart, AreCounted, AreTold, HasBody, IsEndBody, IsEndOutcome, IsNeedOutcome, IsOutcome, IsStuckBody, LeadThere, TellsStuck, any_need, ends_with}
 use Rattle.rvmc_explore.specs.Searched.{AreSound, GoesTo, IsExplored, IsWithin}
 use Rattle.rvmc_explore.specs.Starting.{AreEndsTold, IsEndTold}
 use Rattle.rvmc_explore.specs.Telling.{AddsOutcome, AddsOutcomes}
@@ -45,12 +47,21 @@ within image order start found right explored = record {
 
 -- ---- one more
 
--- a text is told, and those that were told are
+-- whether some outcome is of ranks that need buffers doesn't change by one that isn't
+pub needs_added : (old new : List Outcome) (added : Outcome) → added.need ≡ false → new ≡ old ++ added ∷ []
+    → any_need new ≡ any_need old
+needs_added old new added no_need is =
+    ap any_need is
+    ∙ (or_push any_need (λ o. o.need) refl (λ x xs. refl) old added
+    ∙ (ap (λ b. any_need old || b) no_need ∙ or-false (any_need old)))
+
+-- a text is told, and those that were told are, and no more ranks that need buffers
 record Grows (old new : List Outcome) (body : List ℕ) : Type 0 where
   stays : (text : List ℕ) → HasBody old text → HasBody new text
   here : HasBody new body
   still_apart : AreApart old → AreApart new
   begins : (first : List Outcome) → BeginsWith first old → BeginsWith first new
+  needs : any_need new ≡ any_need old
 
 -- by an outcome behind the others, none of which has its text
 module _ (old new : List Outcome) (added : Outcome) (unlike : HasBody old added.body.items → ⊥)
@@ -75,8 +86,8 @@ module _ (old new : List Outcome) (added : Outcome) (unlike : HasBody old added.
     ]
   ]
 
-  by_added : Grows old new added.body.items
-  by_added = record {
+  by_added : added.need ≡ false → Grows old new added.body.items
+  by_added no_need = record {
     stays = λ text has. (
       has.0,
       has.1,
@@ -95,6 +106,7 @@ module _ (old new : List Outcome) (added : Outcome) (unlike : HasBody old added.
       ap bodies_told is ∙ map-append (λ (o : Outcome). o.body.items) old (added ∷ [])
           ∙ ap (λ bs. bs ++ added.body.items ∷ []) begun ∙ append_assoc (bodies_told first) more (added.body.items ∷ []),
     );
+    needs = needs_added old new added no_need is;
   }
 
 module _ (kept : List KeptNode) (old new : List Outcome) (node : ℕ) (body : List ℕ) (ends : ℕ)
@@ -111,7 +123,9 @@ module _ (kept : List KeptNode) (old new : List Outcome) (node : ℕ) (body : Li
   ]
 
   by_one : Grows old new body
-  by_one = subst (Grows old new) (((adds.1).1).body_is) (by_added old new (adds.1).0 unlike_others (adds.1).2)
+  by_one =
+      subst (Grows old new) (((adds.1).1).body_is)
+      (by_added old new (adds.1).0 unlike_others (adds.1).2 ((adds.1).1).need_is)
 
 -- an outcome that is there was there before, but for how many ends it has
 abbrev WasAt : List Outcome → ℕ → Outcome → Type 0
@@ -127,6 +141,14 @@ same_bodies (x ∷ told) zero one other at same =
     ap (λ b. b ∷ bodies_told told) (same ∙ ap (λ (o : Outcome). o.body.items) (sym (same_Some x one at)))
 same_bodies (x ∷ told) (suc place) one other at same =
     ap (λ bs. x.body.items ∷ bs) (same_bodies told place one other at same)
+
+-- nor do they change which of them are of ranks that need buffers
+same_needs : (told : List Outcome) (place : ℕ) (one other : Outcome) → slice_get told place ≡ Some one
+    → other.need ≡ one.need → any_need (slice_set told place other) ≡ any_need told
+same_needs [] place one other at same = absurd (cc)
+same_needs (x ∷ told) zero one other at same =
+    ap (λ b. b || any_need told) (same ∙ ap (λ (o : Outcome). o.need) (sym (same_Some x one at)))
+same_needs (x ∷ told) (suc place) one other at same = ap (λ b. x.need || b) (same_needs told place one other at same)
 
 -- by one end more of the outcome at a place
 module _ (old new : List Outcome) (place : ℕ) (one : Outcome) (at_place : slice_get old place ≡ Some one)
@@ -181,6 +203,7 @@ module _ (old new : List Outcome) (place : ℕ) (one : Outcome) (at_place : slic
       more,
       ap bodies_told is ∙ same_bodies old place one (one_end_more one) at_place refl ∙ begun,
     );
+    needs = ap any_need is ∙ same_needs old place one (one_end_more one) at_place refl;
   }
 
 by_end : (kept : List KeptNode) (old new : List Outcome) (node : ℕ) (body : List ℕ) → AddsEnd kept old node body new
@@ -205,6 +228,7 @@ by_stuck kept old new node body (inl same) = record {
   here = subst (λ os. HasBody os body) (sym same.1) same.0;
   still_apart = λ apart. subst AreApart (sym same.1) apart;
   begins = λ first begun. subst (BeginsWith first) (sym same.1) begun;
+  needs = ap any_need same.1;
 }
 by_stuck kept old new node body (inr adds) = by_one kept old new node body 0 adds
 
@@ -372,6 +396,7 @@ pub record EndsSoFar (order : List ℕ) (image : ImageParts) (found : Findings) 
   pub apart : AreApart told
   pub texts : BodiesSoFar order image found count told
   pub begins : BeginsWith heard told
+  pub needs : any_need told ≡ any_need heard
 
 pub no_ends : (order : List ℕ) (image : ImageParts) (found : Findings) (heard : List Outcome)
     → AreHeard order image heard → EndsSoFar order image found heard 0 heard
@@ -386,6 +411,7 @@ no_ends order image found heard are = record {
     counted = are.uncounted;
   };
   begins = ([], sym (append-nil (bodies_told heard)));
+  needs = refl;
 }
 
 -- where each has fewer ends than there can be, it may have one more
@@ -438,6 +464,7 @@ one_end order image found explored heard count node body old new at is adds so_f
       apart = grows.still_apart so_far.apart;
       texts = texts_more order image found count node body old new at is adds so_far.apart so_far.texts;
       begins = grows.begins heard so_far.begins;
+      needs = grows.needs ∙ so_far.needs;
     }
 
 pub all_ends : (order : List ℕ) (image : ImageParts) (found : Findings) (heard : List Outcome) (count : ℕ)
@@ -467,6 +494,7 @@ pub record StuckSoFar (order : List ℕ) (image : ImageParts) (found : Findings)
   pub stuck : (k : ℕ) (company : Company) → k < count → slice_get found.companies k ≡ Some company
       → GoesTo found.leads found.ends company.node ⊎ TellsStuck image found.kept told company
   pub begins : BeginsWith heard told
+  pub needs : any_need told ≡ any_need heard
 
 as_outcome : (order : List ℕ) (image : ImageParts) (found : Findings) (outcome : Outcome) → IsHeard order image outcome
     → IsOutcome order image found outcome
@@ -474,13 +502,15 @@ as_outcome order image found outcome (inl end) = inl end
 as_outcome order image found outcome (inr need) = inr (inr need)
 
 pub ends_alone : (order : List ℕ) (image : ImageParts) (found : Findings) (heard told : List Outcome)
-    → AreToldEnds order image found told → BeginsWith heard told → StuckSoFar order image found heard 0 told
-ends_alone order image found heard told are begun = record {
+    → AreToldEnds order image found told → BeginsWith heard told → any_need told ≡ any_need heard
+    → StuckSoFar order image found heard 0 told
+ends_alone order image found heard told are begun needs = record {
   each = λ k outcome at. as_outcome order image found outcome (are.each k outcome at);
   apart = are.apart;
   counted = are.counted;
   stuck = λ k company low at. absurd (omega (arith, low));
   begins = begun;
+  needs = needs;
 }
 
 still_counted : (order : List ℕ) (image : ImageParts) (found : Findings) (old new : List Outcome) (node : ℕ)
@@ -511,6 +541,7 @@ one_company order image found heard count marks company old new at sound (inl ma
         | inr other ↦ so_far.stuck k c (omega (arith, low, other)) there
       ];
       begins = so_far.begins;
+      needs = so_far.needs;
     })
 one_company order image found heard count marks company old new at sound (inr more) so_far =
     let body = more.0 in
@@ -543,6 +574,7 @@ one_company order image found heard count marks company old new at sound (inr mo
         ]
       ];
       begins = grows.begins heard so_far.begins;
+      needs = grows.needs ∙ so_far.needs;
     }
 
 pub all_told : (order : List ℕ) (image : ImageParts) (found : Findings) (heard : List Outcome) (count : ℕ)

@@ -9,9 +9,8 @@ use Rattle.cl_moves.specs.Standing.{IsWay, by_order, first_node}
 use Rattle.cl_explore.specs.Ends.{ExploredFrom, Findings}
 use Rattle.rvmc_explore.specs.InnerOutcomes.{IsHeard}
 use Rattle.rvmc_explore.specs.InnerRecorded.{IsInOrder, RecordsIn}
-use Rattle.rvmc_explore.specs.Outcomes.{AreTold, IsEndOutcome, IsNeedOutcome, IsOutcome, IsStuckBody, IsTextAt}
+use Rattle.rvmc_explore.specs.Outcomes.{AreTold, IsEndOutcome, IsListOf, IsNeedOutcome, IsOutcome, IsStuckBody, IsTextAt}
 use Rattle.rvmc_explore.specs.Recorded.{Leads, LeadsTo, RecordsEnd, numbered}
-use Rattle.rvmc_explore.specs.Searched.{IsSearched}
 use Rattle.rvmc_explore.specs.Starting.{IsListFrom, RecordsEndBehind}
 use Rattle.rvmc_explore.specs.declared.outcomes.Outcome.{Outcome}
 use Rattle.rvmc_explore.proofs.EndTexts.{stands_kept}
@@ -134,13 +133,14 @@ records_told image order start found explored limits told are number (Some steps
     subst (λ o. Leads image order o (Some steps)) (sym is)
     (leads_to image order start found explored outcome steps limits sorted (are.each at.0 outcome at.2))
 
-pub records_end : (image : ImageParts) (order : List ℕ) (buffered : Bool) (states turns : ℕ) (found : Findings)
-    (told : List Outcome) (number : ℕ) (steps : Option (List Step)) → IsImage image → IsSearched image order buffered states turns found
-    → AreTold order image found told → RecordsIn told number steps → RecordsEnd image order buffered states turns number steps
-records_end image order buffered states turns found told number steps limits searched are records = record {
+pub records_end : (image : ImageParts) (order : List ℕ) (buffered : Bool) (states turns : ℕ) (told : List Outcome)
+    (number : ℕ) (steps : Option (List Step)) → IsImage image → IsListOf image order buffered states turns told
+    → RecordsIn told number steps → RecordsEnd image order buffered states turns number steps
+records_end image order buffered states turns told number steps limits listed records = record {
   told = told;
-  listed = record { found = found; searched = searched; are = are };
-  leads = records_told image order (first_node image) found searched.explored limits told are number steps records;
+  listed = listed;
+  leads = records_told image order (first_node image) listed.found (listed.searched).explored limits told listed.are
+      number steps records;
 }
 
 pub records_behind : (image : ImageParts) (start : Start) (states turns : ℕ) (told : List Outcome) (number : ℕ)

@@ -132,9 +132,11 @@ pub record AreTold (order : List ℕ) (image : ImageParts) (found : Findings) (t
   pub stuck : (k : ℕ) (company : Company) → slice_get found.companies k ≡ Some company
       → GoesTo found.leads found.ends company.node ⊎ TellsStuck image found.kept told company
 
--- the list of what is told of the image and the order, of a search within these bounds
+-- the list of what is told of the image and the order, of a search within these bounds. If every send is buffered, it names
+-- no ranks that need buffers
 pub record IsListOf (image : ImageParts) (order : List ℕ) (buffered : Bool) (states turns : ℕ) (told : List Outcome)
     : Type 0 where
   pub found : Findings
   pub searched : IsSearched image order buffered states turns found
   pub are : AreTold order image found told
+  pub no_need : buffered ≡ true → any_need told ≡ false

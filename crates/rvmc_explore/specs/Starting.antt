@@ -1,5 +1,5 @@
 -- What is told of a start.
-use Rattle.std.specs.Prelude.{ℕ, ◌≡◌, ◌≢◌, List, true, length, slice_get, Option, None, Some}
+use Rattle.std.specs.Prelude.{ℕ, ◌≡◌, ◌≢◌, List, false, true, length, slice_get, Option, None, Some}
 use Rattle.rv_image.specs.Text.{image_text}
 use Rattle.rv_image_types.specs.declared.images.ImageParts.{ImageParts}
 use Rattle.cl_machine.specs.declared.steps.Step.{Step}
@@ -11,7 +11,7 @@ use Rattle.rvmc_starts.specs.declared.parts.EndText.{EndText}
 use Rattle.rvmc_starts.specs.declared.parts.Part.{Part}
 use Rattle.rvmc_starts.specs.declared.starts.Start.{Start}
 use Rattle.rvmc_explore.specs.Endless.{SaysNoneStuck, SaysUnending}
-use Rattle.rvmc_explore.specs.Outcomes.{AreTold}
+use Rattle.rvmc_explore.specs.Outcomes.{AreTold, any_need}
 use Rattle.rvmc_explore.specs.Recorded.{Leads, numbered}
 use Rattle.rvmc_explore.specs.Telling.{findings_status}
 use Rattle.rvmc_explore.specs.declared.outcomes.Outcome.{Outcome}
@@ -47,13 +47,14 @@ pub record IsPartOf (start : Start) (states left : ℕ) (part : Part) : Type 0 w
   pub states_are : part.states ≡ states
   pub left_are : part.left ≡ left
 
--- the list of what is told of the start, of a search within these bounds
+-- the list of what is told of the start, of a search within these bounds. It never names ranks that need buffers
 pub record IsListFrom (image : ImageParts) (start : Start) (states turns : ℕ) (told : List Outcome) : Type 0 where
   pub found : Findings
   pub known : start.image ≡ sum_of (image_text image)
   pub behind : ExploredBehind image start.harts start.turns found
   pub bounded : IsBounded states None turns found.kept found.left
   pub are : AreTold start.harts image found told
+  pub no_need : any_need told ≡ false
 
 -- each outcome that is told is one to which a run leads that begins with the start's turns, and they are all of those where
 -- none is left, as it is unless the moves of as many states as are allowed were made, or a rank took more turns by itself

@@ -1,10 +1,10 @@
 //! The outcomes that `explore` lists: ends, ranks that are stuck while others run on, and ranks that need buffers.
 
-ghost use Rattle.std.specs.Prelude.{◌≡◌, ◌<◌, ◌↔◌, ℕ, IfNone, IfOk, IfSome, List, OnOk, length, true};
+ghost use Rattle.std.specs.Prelude.{◌≡◌, ◌<◌, ◌↔◌, ℕ, IfNone, IfOk, IfSome, List, OnOk, false, length, true};
 ghost use Rattle.cl_explore.specs.Ends.{findings};
 ghost use Rattle.cl_explore.specs.Listening.{IsEndNode, IsNeedNode};
 ghost use Rattle.rvmc_explore.specs.InnerOutcomes.{AddsEnd, AddsStuck, AreHeard, AreToldBeside, AreToldEnds, BeginsWith, CountsOne, HaveRoom, IsBodyAt, IsNew, IsOutcomeOf};
-ghost use Rattle.rvmc_explore.specs.Outcomes.{AreTold, HasBody, IsEndBody, IsNeedBody, IsStuckBody};
+ghost use Rattle.rvmc_explore.specs.Outcomes.{AreTold, HasBody, IsEndBody, IsNeedBody, IsStuckBody, any_need};
 ghost use Rattle.rvmc_explore.specs.Searched.{IsExplored, IsWithin};
 
 use crate::ends::put_end;
@@ -144,7 +144,8 @@ pub(crate) fn new_end(
     node: usize,
 ) -> Result<Option<Outcome>, AllocError>
     requires { IsEndNode image.now order.now nodes.now node }
-    ensures { IfOk result (λ o. IfSome o (IsNew order.now image.now told.now)) }
+    ensures new { IfOk result (λ o. IfSome o (IsNew order.now image.now told.now)) }
+    ensures no_need { IfOk result (λ o. IfSome o (λ outcome. outcome.need ≡ false)) }
 {
     let body = end_body(alloc, image, order, nodes, node)?;
     if place_of(told, body.as_slice()).is_some() {
@@ -221,7 +222,8 @@ fn add_stuck(
     Ok(())
 }
 
-/// What is told of each end that was found, behind what was heard of while it was searched.
+/// What is told of each end that was found, behind what was heard of while it was searched. It names ranks that need buffers
+/// only if what was heard of does.
 fn tell_ends(
     alloc: Global,
     image: &Image,
@@ -234,6 +236,7 @@ fn tell_ends(
     requires within { IsWithin (findings found.now) }
     ensures told { IfOk result (λ told. AreToldEnds order.now image.now (findings found.now) told.items) }
     ensures begins { IfOk result (λ told. BeginsWith heard.items told.items) }
+    ensures needs { IfOk result (λ told. any_need told.items ≡ any_need heard.items) }
 {
     let nodes = found.nodes.as_slice();
     let mut told = heard;
@@ -266,7 +269,7 @@ fn tell_company(
 
 /// All that is told: what was heard of while it was searched, each end that was found, and the ranks that are stuck in each
 /// node that leads to no end. No two have the same text: the first with a text stands for all, and says how many ends
-/// that were found have it.
+/// that were found have it. Ranks that need buffers are named only if they are in what was heard of.
 pub(crate) fn tell(
     alloc: Global,
     image: &Image,
@@ -279,6 +282,7 @@ pub(crate) fn tell(
     requires within { IsWithin (findings found.now) }
     ensures told { IfOk result (λ told. AreTold order.now image.now (findings found.now) told.items) }
     ensures begins { IfOk result (λ told. BeginsWith heard.items told.items) }
+    ensures needs { IfOk result (λ told. any_need told.items ≡ any_need heard.items) }
 {
     let mut told = tell_ends(alloc, image, order, found, heard)?;
     let nodes = found.nodes.as_slice();

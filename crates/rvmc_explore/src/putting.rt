@@ -1,17 +1,19 @@
 //! The outcomes of a search, each written when it is found.
 
-ghost use Rattle.std.specs.Prelude.{◌≡◌, ◌<◌, ◌++◌, [], IfErr, IfOk, List, length, true, ℕ};
+ghost use Rattle.std.specs.Prelude.{◌≡◌, ◌<◌, ◌++◌, [], IfErr, IfOk, List, false, length, true, ℕ};
 ghost use Rattle.std.specs.Io.KnownBytes.{Appends};
 ghost use Rattle.cl_explore.specs.Ends.{findings};
 ghost use Rattle.cl_lines.specs.Telling.{TellsProgress};
 ghost use Rattle.rvmc_explore.specs.InnerOutcomes.{AreHeard};
 ghost use Rattle.rvmc_explore.specs.Searched.{IsSearched};
 ghost use Rattle.rvmc_explore.specs.InnerTelling.{WereTold};
+ghost use Rattle.rvmc_explore.specs.Outcomes.{any_need};
 ghost use Rattle.rvmc_explore.specs.Telling.{AddsOutcomes, IsBegun, Tells};
 
 use crate::asked::Asked;
 use crate::closing::last_line;
 use crate::counting::put_counts;
+use crate::hearing::Sends;
 use crate::judging::search_status;
 use crate::outcomes::{Outcome, tell};
 use crate::teller::{Outset, Teller, put};
@@ -36,8 +38,9 @@ pub struct Searched {
     pub status: u8,
 }
 
-/// The search, and each end told as it is found, and ranks that need buffers, behind whatever the writer held.
-fn search_telling<K: Outset, O: Write, E: Write>(
+/// The search, and each end told as it is found, and ranks that need buffers unless each standard send copies its message, behind
+/// whatever the writer held.
+fn search_telling<K: Outset + Sends, O: Write, E: Write>(
     alloc: Global,
     image: &Image,
     asked: &Asked<'_>,
@@ -49,10 +52,13 @@ fn search_telling<K: Outset, O: Write, E: Write>(
     requires before { O.contents teller.old.out.now ≡ K.before }
     requires none { teller.old.told.items ≡ [] }
     requires taken { teller.old.taken ≡ true }
+    requires sends { teller.old.buffered ≡ asked.now.buffered }
+    requires buffered { K.buffered ≡ asked.now.buffered }
     ensures same_reference { teller.new.out.ghost_name ≡ teller.old.out.ghost_name }
     ensures heard { AreHeard asked.now.order.now image.now teller.new.told.items }
     ensures told { WereTold teller.new.told.items teller.new.taken (O.contents teller.old.out.now)
         (O.contents teller.new.out.now) }
+    ensures no_need { asked.now.buffered ≡ true → any_need teller.new.told.items ≡ false }
     ensures searched { IfOk result (λ found.
         IsSearched image.now asked.now.order.now asked.now.buffered asked.now.states asked.now.turns (findings found)) }
     ensures progress { TellsProgress asked.now.progress (E.contents err.old) (E.contents err.new) }
@@ -79,6 +85,7 @@ fn rest_of(
     requires searched { IsSearched image.now asked.now.order.now asked.now.buffered asked.now.states asked.now.turns
         (findings found.now) }
     requires heard { AreHeard asked.now.order.now image.now heard.items }
+    requires no_need { asked.now.buffered ≡ true → any_need heard.items ≡ false }
     ensures { IfOk result (λ rest. (text : List ℕ) → AddsOutcomes 1 heard.items [] text
         → Tells image.now asked.now.order.now asked.now.buffered asked.now.states asked.now.turns
         (text ++ rest.text.items) rest.status) }
@@ -124,11 +131,12 @@ pub fn put_explored<O: Write, E: Write>(
         × Appends (O.contents out.old) (O.contents out.new) text) }
     ensures progress { TellsProgress asked.now.progress (E.contents err.old) (E.contents err.new) }
 {
-    let mut teller: Teller<'_, O, Brand> = Teller::new(alloc, out);
+    let mut teller: Teller<'_, O, Brand> = Teller::new(alloc, asked.buffered, out);
     let found = search_telling::<Brand, O, E>(alloc, image, asked, &mut teller, err);
     let Teller {
         told,
         taken,
+        buffered: _buffered,
         out,
         of: _of,
     } = teller;

@@ -1,17 +1,18 @@
 //! What is told of one start of a split.
 
-ghost use Rattle.std.specs.Prelude.{◌≡◌, ◌<◌, [], IfErr, IfOk, None, length};
+ghost use Rattle.std.specs.Prelude.{◌≡◌, ◌<◌, [], IfErr, IfOk, None, false, length, true};
 ghost use Rattle.std.specs.Option.{option_map};
 ghost use Rattle.rv_image.specs.Text.{image_text};
 ghost use Rattle.cl_explore.specs.Ends.{ExploredBehind, IsBounded, findings};
 ghost use Rattle.rvmc_starts.specs.Sums.{sum_of};
 ghost use Rattle.cl_lines.specs.Telling.{TellsProgress};
 ghost use Rattle.rvmc_explore.specs.InnerOutcomes.{AreHeard};
+ghost use Rattle.rvmc_explore.specs.Outcomes.{any_need};
 ghost use Rattle.rvmc_explore.specs.Starting.{AreEndsTold, IsEndTold, IsLine, RecordsEndBehind, StartFaultHolds, TellsFrom};
 ghost use Rattle.rvmc_explore.specs.declared.starting.StartFault.TheVariants as faults;
 
 use crate::heads::put_head;
-use crate::hearing::Hearer;
+use crate::hearing::{Buffered, Hearer};
 use crate::judging::search_status;
 use crate::outcomes::{Outcome, tell};
 use crate::recording::record_in;
@@ -99,22 +100,24 @@ fn ends_told(alloc: Global, image: &Image, told: &[Outcome]) -> Result<Vec<EndTe
     Ok(ends)
 }
 
-/// A search from a start, in which ends are heard of as they are found. Sends always buffer in it: ranks may need buffers before
-/// the start, where it doesn't look.
+/// A search from a start, in which ends are heard of as they are found. Each standard send copies its message in it, since ranks
+/// may need buffers before the start, where it doesn't look. So it names no ranks that need buffers.
 ///
 /// Refusals: OtherImage, then NoTurn, and Memory.
-#[tactic(auto, using(cl_lines::proofs::Behind::nothing_told, crate::proofs::Heard::none_heard))]
+#[tactic(auto, using(cl_lines::proofs::Behind::nothing_told, crate::proofs::Heard::none_heard, crate::proofs::Heard::none_needed))]
 fn searched<E: Write>(
     alloc: Global,
     image: &Image,
     start: &Start,
     reach: Reach,
-    hearer: &mut Hearer,
+    hearer: &mut Hearer<Buffered>,
     err: &mut E,
 ) -> Result<Exploration, StartFault>
     requires harts { 0 < length start.now.harts }
     requires none { hearer.old.told.items ≡ [] }
+    requires sends { hearer.old.buffered ≡ true }
     ensures heard { AreHeard start.now.harts image.now hearer.new.told.items }
+    ensures no_need { any_need hearer.new.told.items ≡ false }
     ensures known { IfOk result (λ found. start.now.image ≡ sum_of (image_text image.now)) }
     ensures ends { IfOk result (λ found. ExploredBehind image.now start.now.harts start.now.turns (findings found)) }
     ensures most { IfOk result (λ found. IsBounded reach.states None reach.turns found.nodes.items found.left) }
@@ -158,7 +161,7 @@ pub fn explored_from<E: Write>(
 {
     // ghost: brings into scope that the parts are those of an image; no effect at run time
     let _parts = image.parts();
-    let mut hearer = Hearer::new(alloc);
+    let mut hearer: Hearer<Buffered> = Hearer::new(alloc, true);
     let found = searched(alloc, image, start, reach, &mut hearer, err)?;
     let order = start.harts.as_slice();
     let told = tell(alloc, image, order, &found, hearer.told)?;
@@ -202,7 +205,7 @@ pub fn recorded_from<E: Write>(
 {
     // ghost: brings into scope that the parts are those of an image; no effect at run time
     let _parts = image.parts();
-    let mut hearer = Hearer::new(alloc);
+    let mut hearer: Hearer<Buffered> = Hearer::new(alloc, true);
     let found = searched(alloc, image, start, reach, &mut hearer, err)?;
     let told = tell(alloc, image, start.harts.as_slice(), &found, hearer.told)?;
     Ok(record_in(alloc, told.as_slice(), number)?)

@@ -1,12 +1,14 @@
 //! Ends, and ranks that need buffers, that are told while a search goes on.
 
-ghost use Rattle.std.specs.Prelude.{◌≡◌, ◌+◌, [], ℕ, IfOk, List, None, Option, length, true};
+ghost use Rattle.std.specs.Prelude.{◌≡◌, ◌+◌, [], ℕ, IfOk, List, None, Option, false, length, true};
 ghost use Rattle.std.specs.Io.KnownBytes.{Appends};
 ghost use Rattle.cl_explore.specs.Listening.{IsEndNode, IsNeedNode};
 ghost use Rattle.rvmc_explore.specs.InnerOutcomes.{AreHeard};
 ghost use Rattle.rvmc_explore.specs.InnerTelling.{WereTold};
+ghost use Rattle.rvmc_explore.specs.Outcomes.{any_need};
 ghost use Rattle.rvmc_explore.specs.Telling.{AddsOutcome};
 
+use crate::hearing::Sends;
 use crate::outcomes::{Outcome, new_end, new_need};
 use crate::telling::put_outcome;
 use cl_explore::{KeptNode, Listener};
@@ -36,8 +38,10 @@ pub(crate) struct Teller<'a, O, K> {
     pub told: Vec<Outcome>,
     /// Whether the writer took all of it. After a write that failed nothing more is written.
     pub taken: bool,
+    /// Whether each standard send copies its message. Then nothing is told of ranks that need buffers.
+    pub buffered: bool,
     pub out: &'a mut O,
-    /// What is known of the writer since before.
+    /// What is known of the writer since before, and of standard sends.
     pub of: PhantomData<K>,
 }
 
@@ -72,23 +76,26 @@ fn text_of(
 
 impl<'a, O, K> Teller<'a, O, K> {
     /// Nothing is told yet.
-    pub(crate) fn new(alloc: Global, out: &'a mut O) -> Teller<'a, O, K>
+    pub(crate) fn new(alloc: Global, buffered: bool, out: &'a mut O) -> Teller<'a, O, K>
         ensures same_reference { result.out.ghost_name ≡ out.entry.ghost_name }
         ensures now { result.out.now ≡ out.entry.now }
         ensures none { result.told.items ≡ [] }
         ensures taken { result.taken ≡ true }
+        ensures sends { result.buffered ≡ buffered }
     {
         Teller {
             told: Vec::new(alloc),
             taken: true,
+            buffered,
             out,
             of: PhantomData,
         }
     }
 }
 
-impl<'a, O: Write, K: Outset> Listener for Teller<'a, O, K> {
-    ghost holds = { λ teller image order. (teller.out.ghost_name ≡ K.name) × AreHeard order image teller.told.items
+impl<'a, O: Write, K: Outset + Sends> Listener for Teller<'a, O, K> {
+    ghost holds = { λ teller image order. (teller.out.ghost_name ≡ K.name) × (teller.buffered ≡ K.buffered)
+        × AreHeard order image teller.told.items × (K.buffered ≡ true → any_need teller.told.items ≡ false)
         × WereTold teller.told.items teller.taken K.before (O.contents teller.out.now) };
 
     fn end(
@@ -117,6 +124,10 @@ impl<'a, O: Write, K: Outset> Listener for Teller<'a, O, K> {
         node: usize,
         ranks: &[u8],
     ) -> Result<(), AllocError> {
+        // nobody is held up by a send that copies its message
+        if self.buffered {
+            return Ok(());
+        }
         let Some(outcome) = new_need(alloc, image, self.told.as_slice(), nodes, node, ranks)? else {
             return Ok(());
         };

@@ -9,7 +9,7 @@ use Rattle.rvmc_explore.proofs.outcomes.tell.Goals as goal
 pub loop-place-init : goal.loop-place-init
 loop-place-init c =
     ends_alone c.args.order.now c.args.image.now (findings c.args.found.now) c.args.heard.items c.in_ok-told.told.items
-    c.in_ok-told.ensures.told c.in_ok-told.ensures.begins
+    c.in_ok-told.ensures.told c.in_ok-told.ensures.begins c.in_ok-told.ensures.needs
 
 pub loop-place-preserved : goal.loop-place-preserved
 loop-place-preserved c =
@@ -38,3 +38,6 @@ returns-clause-told c =
 
 pub returns-clause-begins : goal.returns-clause-begins
 returns-clause-begins c = (c.loop-place.invariant).begins
+
+pub returns-clause-needs : goal.returns-clause-needs
+returns-clause-needs c = (c.loop-place.invariant).needs

@@ -40,3 +40,6 @@ returns-clause-told c =
 
 pub returns-clause-begins : goal.returns-clause-begins
 returns-clause-begins c = (c.loop-place.invariant).begins
+
+pub returns-clause-needs : goal.returns-clause-needs
+returns-clause-needs c = (c.loop-place.invariant).needs

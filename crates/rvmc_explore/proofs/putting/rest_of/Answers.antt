@@ -49,6 +49,7 @@ returns c = λ before lines.
         found = findings found;
         searched = c.requires.searched;
         are = c.in_ok-told.ensures.told;
+        no_need = λ copied. c.in_ok-told.ensures.needs ∙ c.requires.no_need copied;
       };
       long = found.long;
       unending = c.in_ok-unending.unending;

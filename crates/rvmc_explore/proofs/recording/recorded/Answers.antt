@@ -1,32 +1,30 @@
-use Rattle.std.proofs.Common.{subst}
+use Rattle.std.proofs.Common.{subst, ◌∙◌}
 use Rattle.std.specs.Option.{option_map}
 use Rattle.cl_explore.specs.Ends.{findings}
 use Rattle.cl_moves.specs.Standing.{first_node}
 use Rattle.rvmc_explore.specs.InnerRecorded.{RecordsIn}
-use Rattle.rvmc_explore.proofs.Heard.{none_heard}
 use Rattle.rvmc_explore.proofs.Listed.{within}
 use Rattle.rvmc_explore.proofs.ToEnds.{records_end}
 use Rattle.rvmc_explore.proofs.recording.recorded.Goals as goal
 
-pub explore-requires-clause-holds : goal.explore-requires-clause-holds
-explore-requires-clause-holds g c =
-    none_heard c.args.asked.now.order.now c.args.image.now c.new-hearer.result.told.items c.new-hearer.ensures
-
 pub tell-requires-clause-explored : goal.tell-requires-clause-explored
-tell-requires-clause-explored g c = (first_node c.args.image.now, c.in_ok-found.ensures.ends)
+tell-requires-clause-explored g c = (first_node c.args.image.now, (c.in_ok-found.ensures.searched).explored)
 
 pub tell-requires-clause-within : goal.tell-requires-clause-within
 tell-requires-clause-within g c =
     let image = c.args.image.now in
     within image c.args.asked.now.order.now (first_node image) (findings c.in_ok-found.found) c.parts-parts.ensures.limits
-    c.in_ok-found.ensures.ends
+    (c.in_ok-found.ensures.searched).explored
 
 pub returns-clause-steps : goal.returns-clause-steps
 returns-clause-steps g c =
     records_end c.args.image.now c.args.asked.now.order.now c.args.asked.now.buffered c.args.asked.now.states
-    c.args.asked.now.turns
-    (findings c.in_ok-found.found) c.in_ok-told.told.items c.args.number _ c.parts-parts.ensures.limits
-    (record { explored = c.in_ok-found.ensures.ends; bounded = c.in_ok-found.ensures.most; buffers = c.in_ok-found.ensures.buffers })
-    c.in_ok-told.ensures.told
+    c.args.asked.now.turns c.in_ok-told.told.items c.args.number _ c.parts-parts.ensures.limits
+    (record {
+      found = findings c.in_ok-found.found;
+      searched = c.in_ok-found.ensures.searched;
+      are = c.in_ok-told.ensures.told;
+      no_need = λ copied. c.in_ok-told.ensures.needs ∙ c.search_hearing.ensures.no_need copied;
+    })
     (subst (λ os. RecordsIn os c.args.number (option_map (λ s. s.items) c.in_ok-record_in.field-0)) c.as_slice.ensures.value
     c.in_ok-record_in.ensures)

@@ -57,6 +57,7 @@ returns-clause-told g c =
         bounded = c.in_ok-found.ensures.most;
         are = subst (λ order. AreTold order c.args.image.now (findings found) told) c.as_slice-order.ensures
             c.in_ok-told.ensures.told;
+        no_need = c.in_ok-told.ensures.needs ∙ c.searched.ensures.no_need;
       };
       part = part;
       of = record {

@@ -1,4 +1,4 @@
-use Rattle.std.proofs.Common.{subst, sym}
+use Rattle.std.proofs.Common.{subst, sym, ◌∙◌}
 use Rattle.std.specs.Option.{option_map}
 use Rattle.cl_explore.specs.Ends.{ExploredFrom, findings}
 use Rattle.rvmc_explore.specs.InnerOutcomes.{AreHeard}
@@ -39,6 +39,7 @@ returns-clause-steps g c =
       bounded = c.in_ok-found.ensures.most;
       are = subst (λ order. AreTold order c.args.image.now found c.in_ok-told.told.items) c.as_slice.ensures
           c.in_ok-told.ensures.told;
+      no_need = c.in_ok-told.ensures.needs ∙ c.searched.ensures.no_need;
     })
     (subst (λ os. RecordsIn os c.args.number (option_map (λ s. s.items) c.in_ok-record_in.field-0))
     c.as_slice-2.ensures.value c.in_ok-record_in.ensures)

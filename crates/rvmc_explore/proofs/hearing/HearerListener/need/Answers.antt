@@ -1,20 +1,25 @@
 use Rattle.std.proofs.Common.{subst}
 use Rattle.rvmc_explore.specs.InnerOutcomes.{IsNew}
-use Rattle.rvmc_explore.proofs.Heard.{heard_more, need_inside}
+use Rattle.rvmc_explore.proofs.Heard.{heard_more, need_inside, none_copied}
 use Rattle.rvmc_explore.proofs.hearing.HearerListener.need.Goals as goal
 
 pub new_need-requires : goal.new_need-requires
-new_need-requires c =
+new_need-requires g c =
     need_inside c.args.image.now c.args._order.now c.args.nodes.now c.args.node c.args.ranks.now c.requires.need
 
 pub returns : goal.returns
-returns c =
+returns g c =
     let order = c.args._order.now in
     let image = c.args.image.now in
     let told = c.args.self.now.told.items in
     let outcome = c.in-Some.outcome in
     record {
-      holds = heard_more order image told c.push.new.self.items outcome
-          (subst (λ os. IsNew order image os outcome) c.as_slice.ensures.value
-          (rw c.in-Some.is at (c.in_ok-outcome.ensures order c.requires.need))) c.in_ok-push.ensures.items c.requires.holds;
+      holds = (
+        (c.requires.holds).0,
+        heard_more order image told c.push.new.self.items outcome
+            (subst (λ os. IsNew order image os outcome) c.as_slice.ensures.value
+            (rw c.in-Some.is at (c.in_ok-outcome.ensures order c.requires.need)))
+            c.in_ok-push.ensures.items (c.requires.holds).1,
+        none_copied g.K.Sends.buffered c.args.self.now.buffered c.push.new.self.items (c.requires.holds).0 c.if-self.false,
+      );
     }

@@ -1,0 +1,17 @@
+use Rattle.std.proofs.Common.{sym, ◌∙◌}
+use Rattle.rvmc_explore.proofs.Heard.{none_heard, none_needed}
+use Rattle.rvmc_explore.proofs.recording.search_hearing.Goals as goal
+
+pub explore-requires-clause-holds : goal.explore-requires-clause-holds
+explore-requires-clause-holds g c =
+    let told = c.args.hearer.now.told.items in (
+      c.requires.sends ∙ sym c.requires.buffered,
+      none_heard c.args.asked.now.order.now c.args.image.now told c.requires.none,
+      λ copied. none_needed told c.requires.none,
+    )
+
+pub returns-clause-heard : goal.returns-clause-heard
+returns-clause-heard g c = (c.explore.ensures.holds).1
+
+pub returns-clause-no_need : goal.returns-clause-no_need
+returns-clause-no_need g c = λ copied. (c.explore.ensures.holds).2 (c.requires.buffered ∙ copied)
