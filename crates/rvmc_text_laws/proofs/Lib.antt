@@ -1,3 +1,4 @@
+pub mod Counts
 pub mod Boxes
 pub mod Waits
 pub mod Lines

@@ -1,6 +1,7 @@
 -- A list of ends is one to the letter.
-use Rattle.std.specs.Prelude.{ℕ, ◌≡◌, Bool, List, [], slice_get, Some}
-use Rattle.std.proofs.Common.{sym, subst}
+use Rattle.std.specs.Prelude.{ℕ, zero, suc, ◌≡◌, ◌≤◌, Bool, List, [], ◌∷◌, length, map, slice_get, Some}
+use Rattle.std.proofs.Common.{ap, arith, inl, inr, refl, sym, subst, ◌∙◌}
+use Rattle.std.proofs.lemmas.List.{length-map}
 use Rattle.rv_image_types.specs.Image.{IsImage}
 use Rattle.rv_image_types.specs.declared.images.ImageParts.{ImageParts}
 use Rattle.cl_machine.specs.Cluster.{Cluster}
@@ -10,12 +11,13 @@ use Rattle.cl_order_laws.specs.Closed.{Node}
 use Rattle.cl_replay.specs.declared.states.ClusterState.{ClusterState}
 use Rattle.rvmc_explore.specs.Ends.{IsEndText}
 use Rattle.rvmc_explore.specs.OneList.{TellsEnd}
-use Rattle.rvmc_explore.specs.Outcomes.{HasBody, IsEndBody, IsEndOutcome, IsListOf}
+use Rattle.rvmc_explore.specs.Outcomes.{AreApart, HasBody, IsEndBody, IsEndOutcome, IsListOf}
 use Rattle.rvmc_explore.specs.declared.outcomes.Outcome.{Outcome}
 use Rattle.rvmc_explore.proofs.EndTexts.{found_way, stands_kept}
 use Rattle.rvmc_explore.proofs.OneList.{one_list_law}
-use Rattle.rvmc_text_laws.specs.Laws.{AreAlikeStates, IsReachedState}
-use Rattle.rvmc_text_laws.specs.OneText.{IsEndAt, OneTextLaw}
+use Rattle.rvmc_text_laws.specs.Laws.{IsReachedState}
+use Rattle.rvmc_text_laws.specs.OneText.{AreEndsAlone, IsEndAt, OneTextLaw}
+use Rattle.rvmc_text_laws.proofs.Counts.{AreDistinct, Has, no_longer}
 use Rattle.rvmc_text_laws.proofs.EndTexts.{end_text_law}
 
 -- the text of an end with this cluster
@@ -45,6 +47,44 @@ at_number : (image : ImageParts) (order : List ℕ) (told : List Outcome) (k : �
     → (is : IsEndAt image order told k end) → ToldAt order image end (is.outcome).body.items
 at_number image order told k end is =
     subst (λ c. ToldAt order image c (is.outcome).body.items) is.cluster_is (told_there image order is.outcome is.is)
+
+-- ---- the texts of a list
+
+abbrev bodies : List Outcome → List (List ℕ)
+bodies told = map (λ (o : Outcome). o.body.items) told
+
+has_at : (told : List Outcome) (body : List ℕ) (k : ℕ) (outcome : Outcome) → slice_get told k ≡ Some outcome
+    → outcome.body.items ≡ body → Has body (bodies told)
+has_at [] body zero outcome there is = absurd (cc)
+has_at [] body (suc k) outcome there is = absurd (cc)
+has_at (o ∷ told) body zero outcome there is =
+    let same : o ≡ outcome = (cc) in inl (sym is ∙ ap (λ (x : Outcome). x.body.items) (sym same))
+has_at (o ∷ told) body (suc k) outcome there is = inr (has_at told body k outcome there is)
+
+has_of_body : (told : List Outcome) (body : List ℕ) → HasBody told body → Has body (bodies told)
+has_of_body told body has = has_at told body has.0 has.1 has.2 has.3
+
+body_of_has : (told : List Outcome) (body : List ℕ) → Has body (bodies told) → HasBody told body
+body_of_has [] body has = absurd has
+body_of_has (o ∷ told) body (inl is) = (zero, o, refl, sym is)
+body_of_has (o ∷ told) body (inr has) =
+    (let rest = body_of_has told body has in (suc rest.0, rest.1, rest.2, rest.3))
+
+distinct : (told : List Outcome) → AreApart told → AreDistinct (bodies told)
+distinct [] apart = tt
+distinct (o ∷ told) apart = (
+  (λ has. let there = body_of_has told o.body.items has in
+      not_first there.0 (apart zero (suc there.0) o there.1 refl there.2 (sym there.3))),
+  distinct told (λ i j one other here there same. one_less_each i j (apart (suc i) (suc j) one other here there same)),
+)
+  where
+    not_first : (k : ℕ) → zero ≡ suc k → ⊥
+    not_first k is = cc
+
+    one_less_each : (i j : ℕ) → suc i ≡ suc j → i ≡ j
+    one_less_each i j is = cc
+
+-- ---- the texts of ends
 
 module _ (image : ImageParts) (order : List ℕ) (found : Findings) (explored : Explored image order found) where
   told_at : (i : ℕ) (node : Node) (body : List ℕ) → slice_get explored.nodes i ≡ Some node
@@ -85,6 +125,22 @@ module _ (image : ImageParts) (order : List ℕ) (buffered : Bool) (states turns
       (sym (same_text order image end (tells.node).cluster outcome.body.items tells.body right tells.alike
       (told_there image order outcome is) (tells_at end tells))) tells.told_is
 
+  -- so this one has each text of a list that tells of ends alone
+  texts_there : (listed.found).left ≡ 0 → (other : List Outcome) → AreEndsAlone order image other → (body : List ℕ)
+      → HasBody other body → HasBody told body
+  texts_there whole other ends body has =
+      subst (HasBody told) has.3 (text_there whole has.1 (ends has.0 has.1 has.2))
+
+  -- and no fewer outcomes
+  no_fewer : (listed.found).left ≡ 0 → (other : List Outcome) → AreApart other → AreEndsAlone order image other
+      → length other ≤ length told
+  no_fewer whole other apart ends =
+      let few = no_longer (bodies other) (bodies told) (distinct other apart)
+      (λ body has. has_of_body told body (texts_there whole other ends body (body_of_has other body has))) in
+      let mine = length-map told (λ (o : Outcome). o.body.items) in
+      let its = length-map other (λ (o : Outcome). o.body.items) in
+      omega (arith, few, mine, its)
+
 pub one_text_law : OneTextLaw
 one_text_law = record {
   exactly = λ image order buffered states turns told listed right end reached tells state text stands is.
@@ -97,4 +153,10 @@ one_text_law = record {
       (at_number image order told k one first) (at_number image order told j other second));
   texts = λ image order buffered copied states turns more longer told other one two whole right k outcome at is.
       text_there image order copied more longer other two right whole outcome is;
+  same = λ image order buffered copied states turns more longer told other one two whole complete right ends its.
+      let here = texts_there image order buffered states turns told one right whole other its in
+      let there = texts_there image order copied more longer other two right complete told ends in
+      let at_least = no_fewer image order copied more longer other two right complete told ((one.are).apart) ends in
+      let at_most = no_fewer image order buffered states turns told one right whole other ((two.are).apart) its in
+      ((λ body. (there body, here body)), omega (arith, at_least, at_most));
 }

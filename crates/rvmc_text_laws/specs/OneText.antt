@@ -1,5 +1,5 @@
 -- That a list of ends is one to the letter.
-use Rattle.std.specs.Prelude.{ℕ, ◌≡◌, Bool, List, [], slice_get, Some}
+use Rattle.std.specs.Prelude.{ℕ, ◌≡◌, ◌↔◌, Bool, List, [], length, slice_get, Some}
 use Rattle.rv_image_types.specs.Image.{IsImage}
 use Rattle.rv_image_types.specs.declared.images.ImageParts.{ImageParts}
 use Rattle.cl_deadlock_laws.specs.Stuck.{IsReachable}
@@ -27,6 +27,15 @@ pub record IsEndAt (image : ImageParts) (order : List ℕ) (told : List Outcome)
   pub is : IsEndOutcome order image outcome
   pub cluster_is : (is.node).cluster ≡ end
 
+-- each outcome of the list is an end
+abbrev pub AreEndsAlone : List ℕ → ImageParts → List Outcome → Type 0
+AreEndsAlone order image told =
+    (k : ℕ) (outcome : Outcome) → slice_get told k ≡ Some outcome → IsEndOutcome order image outcome
+
+-- two lists have the same texts, and equally many
+abbrev pub HaveSameTexts : List Outcome → List Outcome → Type 0
+HaveSameTexts told other = ((body : List ℕ) → HasBody told body ↔ HasBody other body) × (length told ≡ length other)
+
 -- of lists of one image and one order, whatever their bounds. `one_list_law` has which ends they tell
 pub record OneTextLaw : Type 0 where
   -- the text by which a list tells the end of a run is that of this end, in full
@@ -48,3 +57,11 @@ pub record OneTextLaw : Type 0 where
       → (two.found).left ≡ 0 → IsImage image
       → (k : ℕ) (outcome : Outcome) → slice_get told k ≡ Some outcome → IsEndOutcome order image outcome
       → HasBody other outcome.body.items
+  -- if two searches left no state, and their lists tell of ends alone, both lists have the same texts, and equally many. So
+  -- they differ in the order of their outcomes, if at all
+  pub same : (image : ImageParts) (order : List ℕ) (buffered copied : Bool) (states turns more longer : ℕ)
+      (told other : List Outcome)
+      → (one : IsListOf image order buffered states turns told) → (two : IsListOf image order copied more longer other)
+      → (one.found).left ≡ 0 → (two.found).left ≡ 0 → IsImage image
+      → AreEndsAlone order image told → AreEndsAlone order image other
+      → HaveSameTexts told other
