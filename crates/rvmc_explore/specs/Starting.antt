@@ -1,4 +1,4 @@
--- What is told of a start.
+-- What `explore --from` lists: the outcomes behind one start of a split.
 use Rattle.std.specs.Prelude.{ℕ, ◌≡◌, ◌≢◌, List, false, true, length, slice_get, Option, None, Some}
 use Rattle.rv_image.specs.Text.{image_text}
 use Rattle.rv_image_types.specs.declared.images.ImageParts.{ImageParts}
