@@ -432,7 +432,7 @@ impl RankMemory {
         if !self.place(spares, address, count) {
             return Err(BytesFault::Memory);
         }
-        self.fill(address, bytes);
+        self.write_present(address, bytes);
         Ok(())
     }
 
@@ -447,6 +447,10 @@ impl RankMemory {
         ensures kept { result ≡ false → spares.new ≡ spares.old }
     {
         let missing = self.missing(address, count);
+        // mostly they are all there
+        if missing == 0 {
+            return true;
+        }
         if spares.len() < missing {
             return false;
         }
@@ -460,8 +464,8 @@ impl RankMemory {
         true
     }
 
-    /// Writes bytes that are right into pages that are there.
-    fn fill(&mut self, address: u64, bytes: &[u8])
+    /// Writes all the bytes from an address on, where they may be written and all pages that they touch are there.
+    pub fn write_present(&mut self, address: u64, bytes: &[u8])
         requires right { IsWritable self.old address (length bytes.now) }
         requires present { missing_pages self.old.pages address (length bytes.now) ≡ 0 }
         ensures { self.new ≡ with_bytes self.old address bytes.now }

@@ -124,10 +124,6 @@ pub(crate) fn place(
     ensures taken { spares.new + missing_pages (map is_there (shown text.now pages.old.items)) address count
         ≡ spares.old }
 {
-    // mostly they are all there
-    if missing(text, pages.as_slice(), address, count) == 0 {
-        return;
-    }
     for page in 0..pages.len() {
         let touched = touches(address, count, page);
         place_page(rest_of(text, page), &mut pages[page], spares, touched);

@@ -7,7 +7,6 @@ use Rattle.rv_memory.specs.Pages.{touches, written_pages}
 use Rattle.rv_memory.specs.Held.{is_there, page_bytes, all_bytes, shown, shown_page}
 use Rattle.rv_memory.proofs.Marked.{missing_from-next, written_from-length, written_from-get, front-get, front-set}
 use Rattle.rv_memory.proofs.Paged.{there-get, whole-get, whole-set, all-same}
-use Rattle.rv_memory.proofs.Touched.{written_from-all}
 use Rattle.rv_memory.proofs.Shown.{shown-length, shown-get, shown-set}
 use Rattle.rv_memory.proofs.pages.place.Goals as goal
 
@@ -87,8 +86,3 @@ returns c =
       long = c.loop-page.invariant.long;
       taken = c.loop-page.invariant.taken ∙ rw none (omega arith);
     }
-
-pub returns-then-missing-eq0-clause-there : goal.returns-then-missing-eq0-clause-there
-returns-then-missing-eq0-clause-there c =
-    let ts : List Bool = map is_there (shown c.args.text.now c.args.pages.now.items) in
-    sym (written_from-all 0 ts c.args.address c.args.count (sym (rw c.as_slice.ensures.value at c.missing.ensures.value) ∙ c.if-missing-eq0.true))

@@ -4,7 +4,7 @@ use Rattle.rv_memory.specs.Held.{all_bytes, shown}
 use Rattle.rv_memory.specs.Memory.{Memory}
 use Rattle.rv_memory.proofs.Marked.{with_no_bytes, writable-inside, writable-behind, written-present}
 use Rattle.rv_memory.proofs.Shown.{shown-all, held-most}
-use Rattle.rv_memory.proofs.memory.RankMemory.fill.Goals as goal
+use Rattle.rv_memory.proofs.memory.RankMemory.write_present.Goals as goal
 
 empty : (xs : List ℕ) → length xs ≡ 0 → xs ≡ []
 empty [] e = refl
