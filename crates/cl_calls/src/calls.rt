@@ -4,7 +4,7 @@ ghost use Rattle.std.specs.Prelude.{◌≡◌, ◌<◌};
 ghost use Rattle.cl_calls.specs.Calls.{argument as argument_of, call_named, claimed_by, completing_by, partitioning_by};
 ghost use Rattle.cl_calls.specs.Calls.{probing_by, receiving_by, sending_by, several_by};
 
-use crate::rows::{RECV, SEND, calls};
+use crate::rows::{IRECV, PARRIVED, PREADY, RECV, SEND, WAIT, calls};
 use rv_decode::Reg;
 use rv_hart::Hart;
 

@@ -21,5 +21,5 @@ pub use checking::{Standing, fault, receiving_side, sending_side};
 pub use handles::{Handles, handles_at};
 pub use names::{call_name, call_number, call_numbers_law, called_number, is_call_number};
 pub use needs::{Array, Named, Needs, Peer, Range, Region, Statuses, Tag};
-pub use rows::{NUMBERS_END, RECV, SEND};
+pub use rows::{IRECV, NUMBERS_END, PARRIVED, PREADY, RECV, SEND, WAIT};
 pub use sites::{Communicators, Site, position};

@@ -6,7 +6,7 @@ ghost use Rattle.cl_calls.specs.Names.{CallNumbersLaw, call_name as call_name_of
 ghost use Rattle.cl_calls.specs.Names.{is_call_number as is_call_number_of, name_in as name_in_of, number_in as number_in_of};
 ghost use Rattle.cl_calls.specs.Names.{numbers_end, row_view};
 
-use crate::rows::{RECV, SEND, calls};
+use crate::rows::{IRECV, PARRIVED, PREADY, RECV, SEND, WAIT, calls};
 use rv_decode::Reg;
 use rv_hart::Hart;
 

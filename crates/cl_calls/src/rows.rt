@@ -6,6 +6,18 @@ pub const SEND: u64 = 16;
 /// The number of a RECV.
 pub const RECV: u64 = 18;
 
+/// The number of an IRECV.
+pub const IRECV: u64 = 21;
+
+/// The number of a WAIT.
+pub const WAIT: u64 = 23;
+
+/// The number of a PREADY.
+pub const PREADY: u64 = 42;
+
+/// The number of a PARRIVED.
+pub const PARRIVED: u64 = 43;
+
 /// The numbers of all calls are below this one, which is one more than the greatest of them.
 pub const NUMBERS_END: u64 = 44;
 
@@ -25,9 +37,9 @@ macro_rules! calls {
             RECV "RECV" Call::Recv { receiving: Receiving::of($hart), status: argument($hart, 5) };
             19 "ISEND" Call::Isend(Sending::of($hart));
             20 "ISSEND" Call::Issend(Sending::of($hart));
-            21 "IRECV" Call::Irecv(Receiving::of($hart));
+            IRECV "IRECV" Call::Irecv(Receiving::of($hart));
             22 "TEST" Call::Test(Completing::of($hart));
-            23 "WAIT" Call::Wait(Completing::of($hart));
+            WAIT "WAIT" Call::Wait(Completing::of($hart));
             24 "IPROBE" Call::Iprobe(Probing::of($hart));
             25 "PROBE" Call::Probe(Probing::of($hart));
             26 "IMPROBE" Call::Improbe(Probing::of($hart));
@@ -42,8 +54,8 @@ macro_rules! calls {
             35 "WAITALL" Call::Waitall(Several::of($hart));
             40 "PSEND_INIT" Call::PsendInit(Partitioning::of($hart));
             41 "PRECV_INIT" Call::PrecvInit(Partitioning::of($hart));
-            42 "PREADY" Call::Pready { handle: argument($hart, 0), part: argument($hart, 1) };
-            43 "PARRIVED" Call::Parrived { handle: argument($hart, 0), part: argument($hart, 1) };
+            PREADY "PREADY" Call::Pready { handle: argument($hart, 0), part: argument($hart, 1) };
+            PARRIVED "PARRIVED" Call::Parrived { handle: argument($hart, 0), part: argument($hart, 1) };
         }
     };
 }

@@ -7,6 +7,7 @@ pub mod Ends
 pub mod HartSteps
 pub mod Kept
 pub mod Keys
+pub mod Known
 pub mod Lists
 pub mod Loads
 pub mod Looked
@@ -22,6 +23,7 @@ pub mod Taken
 pub mod Turned
 pub mod Went
 pub mod QuickHandles
+pub mod QuickParts
 pub mod QuickReceives
 pub mod QuickSends
 pub mod Same

@@ -1,12 +1,11 @@
 -- IRECVs and WAITs that are worked out straight from the registers are turns that the table of calls has: they ask what it
 -- says, have its rows, and need no page more.
-use Rattle.std.proofs.Common.{◌≡◌, ℕ, ◌<◌, ◌≤◌, ◌==◌, List, [], length, Bool, true, false, Option, Some, None}
+use Rattle.std.proofs.Common.{◌≡◌, ℕ, ◌<◌, ◌≤◌, ◌==◌, List, length, Bool, true, false, Option, Some, None}
 use Rattle.std.proofs.Common.{refl, sym, ap, subst, ◌∙◌, arith}
-use Rattle.std.specs.Prelude.{if◌then◌else◌, ◌||◌, nat_le, get_or, is_some, vec_capacity, vec_len, ◌*◌}
+use Rattle.std.specs.Prelude.{if◌then◌else◌, ◌||◌, nat_le, get_or, is_some, vec_len, ◌*◌}
 use Rattle.std.proofs.lemmas.Bool.{ne_eqb}
 use Rattle.std.proofs.lemmas.List.{get_or_read_under}
 use Rattle.rv_hart.specs.State.{State}
-use Rattle.rv_hart.specs.declared.state.Mode.{Mode}
 use Rattle.rv_hart.specs.declared.state.Mode.TheVariants.{Running as Runs}
 use Rattle.rv_memory.specs.Access.{word_at}
 use Rattle.rv_memory.specs.Memory.{Memory}
@@ -27,43 +26,27 @@ use Rattle.cl_calls.specs.Checks.{are_statuses, checks, first_fault, is_named}
 use Rattle.cl_calls.specs.Needs.{needs_of, one_status}
 use Rattle.cl_calls.specs.declared.needs.Named.TheVariants.{NullOrOpen}
 use Rattle.cl_state.specs.declared.asking.Ask.TheVariants as ask
-use Rattle.cl_state.specs.declared.asking.Doing.TheVariants.{Go, Step}
+use Rattle.cl_state.specs.declared.asking.Doing.TheVariants.{Go}
 use Rattle.cl_state.specs.declared.pending.Manner.TheVariants.{Blocking, Posting}
 use Rattle.cl_state.specs.declared.row.Purpose.TheVariants.{Open}
 use Rattle.cl_state.specs.declared.row.Row.{Row}
 use Rattle.cl_state.specs.declared.row.Row.TheVariants.{OnReply}
 use Rattle.cl_state.specs.declared.row.Wanted.TheVariants as wanted
 use Rattle.cl_state.specs.declared.state.RankState.{RankState}
-use Rattle.cl_state.specs.Asked.{Part, asked, asked_completing, asked_in, checked, doing, doing_in, go_or_refuse, is_ecall}
+use Rattle.cl_state.specs.Asked.{asked, asked_completing, asked_in, doing, is_ecall}
 use Rattle.cl_state.specs.Asked.{no_hart, part_of}
 use Rattle.cl_state.specs.Partitions.{awaited}
 use Rattle.cl_state.specs.Pending.{pending_of}
-use Rattle.cl_state.specs.Right.{IsChecked, output_of}
+use Rattle.cl_state.specs.Right.{IsChecked}
 use Rattle.cl_state.specs.Room.{rank_of}
 use Rattle.cl_state.specs.Table.{begins, completing, row_completing}
 use Rattle.cl_state.specs.Transfers.{asked_transfer, source_of, tag_of}
-use Rattle.cl_state.specs.TurnRoom.{HasRoom}
 use Rattle.cl_state.specs.Writes.{IsEnough, message_into, writes_by, writes_in}
 use Rattle.cl_state.proofs.Pages.{enough_missing, none_enough, one_enough}
-use Rattle.cl_rank.specs.QuickHandles.{IsKnown, Opens, Waits}
+use Rattle.cl_rank.specs.Known.{IsKnown}
+use Rattle.cl_rank.specs.QuickHandles.{Opens, Waits}
 use Rattle.cl_rank.specs.QuickReceives.{IsRightReceive}
-use Rattle.cl_rank.specs.declared.turning.Turn.{Turn}
-
--- ---- a call whose checks hold
-
-does_call : (site : Site) (part : Part) (at : State) (c : Call) → at ≡ part.hart → at.mode ≡ Runs
-    → is_ecall (word_at part.memory at.pc) ≡ true → c ≡ call_named at
-    → first_fault (checks site part.memory part.requests part.phases (length part.out) (needs_of c)) ≡ None
-    → doing site part ≡ Go c
-unfolding doing
-does_call site part at c here running ecall is right =
-    ap (λ (m : Mode). doing_in m site part) (ap (λ (h : State). h.mode) (sym here) ∙ running)
-    ∙ ap (λ (b : Bool). if b then checked site part else Step)
-    (ap (λ (h : State). is_ecall (word_at part.memory h.pc)) (sym here) ∙ ecall)
-    ∙ ap (λ (x : Call). go_or_refuse
-    (first_fault (checks site part.memory part.requests part.phases (length part.out) (needs_of x))) x)
-    (ap call_named (sym here) ∙ sym is)
-    ∙ ap (λ o. go_or_refuse o c) right
+use Rattle.cl_rank.proofs.Known.{does_call}
 
 -- ---- an IRECV
 
@@ -104,7 +87,7 @@ open_row false buffer capacity comm source tag h = refl
 pub known_open : (state : RankState) (hart : ℕ) (at : State) (r : Receiving) (row : Row) (asks : Request)
     → at ≡ get_or state.harts.items hart at → hart < vec_len state.harts → at.mode ≡ Runs
     → is_ecall (word_at state.memory at.pc) ≡ true → call.Irecv r ≡ call_named at → Opens state r row asks
-    → IsKnown state (record { hart = hart; doing = Go (call.Irecv r); row = row }) asks
+    → IsKnown state (record { hart = hart; doing = Go (call.Irecv r); row = row }) (ask.Hub asks)
 unfolding asked
 known_open state hart at r row asks read_at there running ecall spelled opens =
     let part = part_of (rank_of state) hart in
@@ -157,7 +140,7 @@ wait_is_checked site memory table phases c named = (
 pub known_wait : (state : RankState) (hart : ℕ) (at : State) (c : Completing) (row : Row) (asks : Request)
     → at ≡ get_or state.harts.items hart at → hart < vec_len state.harts → at.mode ≡ Runs
     → is_ecall (word_at state.memory at.pc) ≡ true → call.Wait c ≡ call_named at → Waits state c row asks
-    → IsKnown state (record { hart = hart; doing = Go (call.Wait c); row = row }) asks
+    → IsKnown state (record { hart = hart; doing = Go (call.Wait c); row = row }) (ask.Hub asks)
 unfolding asked
 known_wait state hart at c row asks read_at there running ecall spelled waits =
     let part = part_of (rank_of state) hart in
@@ -190,24 +173,10 @@ known_wait state hart at c row asks read_at there running ecall spelled waits =
           (enough_missing ps state.spares (message_into target waits.capacity) (omega (arith, waits.pages, no_status, none_there)));
     }
 
--- ---- its room
-
-pub has_room : (state : RankState) (t : Turn) (asks : Request) → IsKnown state t asks → state.fresh.items ≡ []
-    → HasRoom state t.hart
-has_room state t asks known none =
-    let count : vec_len state.fresh ≡ 0 = state.fresh.ok.0 ∙ ap length none in
-    let within : vec_len state.out ≤ vec_capacity state.out = state.out.ok.1 in (
-      (
-        none ∙ sym (ap (output_of state.memory) (sym known.next.spelled) ∙ known.quiet),
-        omega (arith, count, within),
-      ),
-      known.pages,
-    )
-
 -- the same turn, by another spelling of the call, and of its row with what it asks
 pub known_as : (state : RankState) (hart : ℕ) {one other : Call} {a b : Row × Request} → one ≡ other → a ≡ b
-    → IsKnown state (record { hart = hart; doing = Go other; row = b.0 }) b.1
-    → IsKnown state (record { hart = hart; doing = Go one; row = a.0 }) a.1
+    → IsKnown state (record { hart = hart; doing = Go other; row = b.0 }) (ask.Hub b.1)
+    → IsKnown state (record { hart = hart; doing = Go one; row = a.0 }) (ask.Hub a.1)
 known_as state hart {one} {other} {a} {b} same pair known =
-    subst (λ (x : Call). IsKnown state (record { hart = hart; doing = Go x; row = a.0 }) a.1) (sym same)
-    (subst (λ (x : Row × Request). IsKnown state (record { hart = hart; doing = Go other; row = x.0 }) x.1) (sym pair) known)
+    subst (λ (x : Call). IsKnown state (record { hart = hart; doing = Go x; row = a.0 }) (ask.Hub a.1)) (sym same)
+    (subst (λ (x : Row × Request). IsKnown state (record { hart = hart; doing = Go other; row = x.0 }) (ask.Hub x.1)) (sym pair) known)

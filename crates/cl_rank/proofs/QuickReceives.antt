@@ -1,18 +1,21 @@
 -- RECVs that are worked out straight from the registers: they ask what the table of calls says, need no page more, and are
 -- over once they have their message.
 use Rattle.std.proofs.Common.{◌≡◌, ℕ, ◌<◌, ◌≤◌, ◌^◌, ◌==◌, List, [], ◌∷◌, length, Bool, true, false, Option, Some, None}
-use Rattle.std.proofs.Common.{refl, sym, ap, subst, ◌∙◌, arith}
+use Rattle.std.proofs.Common.{refl, sym, ap, subst, ◌∙◌, ◌+◌, arith}
 use Rattle.std.specs.Prelude.{if◌then◌else◌, nat_le, nat_lt, min, take, get_or, is_some, vec_len, vec_capacity}
 use Rattle.std.proofs.Math.Seq.{take-length}
 use Rattle.std.proofs.lemmas.Bool.{ne_eqb}
+use Rattle.std.proofs.lemmas.Bool.Decides.{nat_tests}
 use Rattle.std.proofs.lemmas.List.{take_min}
 use Rattle.std.proofs.lemmas.List.{get_or_read_under}
 use Rattle.rv_hart.specs.State.{State, read}
 use Rattle.rv_hart.specs.declared.state.Mode.{Mode}
 use Rattle.rv_hart.specs.declared.state.Mode.TheVariants.{Running as Runs}
 use Rattle.rv_memory.specs.Access.{word_at}
-use Rattle.rv_memory.specs.Memory.{Memory}
+use Rattle.rv_memory.specs.Memory.{Memory, with_bytes}
 use Rattle.rv_memory.specs.MorePages.{missing_pages}
+use Rattle.rv_memory.specs.Present.{IsWritable}
+use Rattle.rv_memory.proofs.Marked.{writable-behind, writable-inside}
 use Rattle.mp_types.specs.declared.codes.Code.TheVariants as code
 use Rattle.mp_types.specs.declared.messages.Message.{Message}
 use Rattle.mp_types.specs.declared.replies.Reply.{Reply}
@@ -47,7 +50,7 @@ use Rattle.cl_state.specs.Transfers.{asked_transfer, source_of, tag_of}
 use Rattle.cl_state.specs.TurnRoom.{HasRoom}
 use Rattle.cl_state.specs.Writes.{IsEnough, bytes_from, message_into, writes_by, writes_in}
 use Rattle.cl_state.specs.Written.{written}
-use Rattle.cl_state.proofs.Pages.{enough_head, enough_missing, none_enough, one_enough}
+use Rattle.cl_state.proofs.Pages.{enough_first, enough_missing, none_enough, one_enough}
 use Rattle.cl_deeds.specs.Deeds.{Act}
 use Rattle.cl_rank.specs.Fitting.{RequestsFit}
 use Rattle.cl_sides.specs.Sides.{AreSides, sides_in}
@@ -121,6 +124,7 @@ receives_so state hart at r q read_at there running ecall number none is right a
           ∙ asks_receive state.memory (r.source == no_rank) r.buffer r.capacity r.comm
           (source_of state.site r.comm r.source) (tag_of r.tag) moves
           ∙ ap ask.Hub (sym asks);
+      right = right.0.5;
       pages = right.1;
     }
 
@@ -147,13 +151,32 @@ has_room state hart r q receives none =
           (enough_missing ps state.spares (message_into target r.capacity) (omega (arith, receives.pages, status))),
     )
 
--- and so has room for any message that fits
-pub enough : (state : RankState) (r : Receiving) (bytes : List ℕ)
-    → missing_pages state.memory.pages r.buffer r.capacity ≡ 0 → length bytes ≤ r.capacity
-    → IsEnough state.memory.pages state.spares (bytes_from r.buffer (length bytes) ∷ [])
-enough state r bytes pages few =
-    enough_head state.memory.pages state.spares r.buffer r.capacity (length bytes) []
-    (enough_missing state.memory.pages state.spares (bytes_from r.buffer r.capacity ∷ []) (omega (arith, pages))) few
+-- ---- where its message goes
+
+-- fewer bytes may be written, too
+pub fewer_right : (m : Memory) (a c n : ℕ) → IsWritable m a c → n ≤ c → IsWritable m a n
+fewer_right m a c n right few = go (n == 0) refl
+  where
+    go : (b : Bool) → (n == 0) ≡ b → IsWritable m a n
+    go true is = rw is refl
+    go false is =
+        let some : 0 < n = grind (arith, nat_tests, is) in
+        let more : 0 < c = omega (arith, some, few) in
+        let inside : nat_le (a + n) (length m.bytes) ≡ true = grind (arith, writable-inside m a c more right, few) in
+        let behind : nat_le m.text a ≡ true = grind (arith, writable-behind m a c more right) in
+        rw (is, inside, behind) refl
+
+-- and their pages are there
+pub fewer_present : (ps : List Bool) (a c n : ℕ) → missing_pages ps a c ≡ 0 → n ≤ c → missing_pages ps a n ≡ 0
+fewer_present ps a c n none few =
+    let least : missing_pages ps a n ≤ 0 =
+    enough_first ps 0 a c n [] (enough_missing ps 0 (bytes_from a c ∷ []) (omega (arith, none))) few in
+    omega (arith, least)
+
+-- bytes that may be written
+pub is_written : (m : Memory) (a : ℕ) (bytes : List ℕ) → IsWritable m a (length bytes) → (length bytes ≡ 0 → ⊥)
+    → written m a bytes ≡ with_bytes m a bytes
+is_written m a bytes right some = rw (right, ne_eqb (length bytes) 0 some) refl
 
 -- ---- it is over once it has its message
 

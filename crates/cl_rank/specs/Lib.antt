@@ -8,6 +8,8 @@ pub mod Follows
 pub mod Turning
 pub mod Plains
 pub mod Views
+pub mod Known
 pub mod QuickHandles
+pub mod QuickParts
 pub mod QuickReceives
 pub mod QuickSends

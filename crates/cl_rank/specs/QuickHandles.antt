@@ -1,6 +1,6 @@
 -- IRECVs, and WAITs for their messages, which are worked out straight from the registers and the open requests: what they ask,
 -- and their rows of the table of calls.
-use Rattle.std.specs.Prelude.{ℕ, ◌≡◌, [], false, is_some, Option, Some, IsTrue}
+use Rattle.std.specs.Prelude.{ℕ, ◌≡◌, false, is_some, Option, Some, IsTrue}
 use Rattle.rv_memory.specs.MorePages.{missing_pages}
 use Rattle.mp_types.specs.declared.requests.Request.{Request}
 use Rattle.mp_types.specs.declared.requests.Request.TheVariants as request
@@ -10,22 +10,15 @@ use Rattle.mp_request.specs.declared.entries.Transfer.TheVariants as transfer
 use Rattle.mp_request.specs.Table.{Table, lowest_free, request_at}
 use Rattle.cl_calls.specs.declared.calls.Completing.{Completing}
 use Rattle.cl_calls.specs.declared.calls.Receiving.{Receiving}
-use Rattle.cl_state.specs.declared.asking.Ask.TheVariants as ask
 use Rattle.cl_state.specs.declared.pending.Manner.TheVariants.{Blocking, Posting}
 use Rattle.cl_state.specs.declared.row.Purpose.TheVariants.{Open}
 use Rattle.cl_state.specs.declared.row.Row.{Row}
 use Rattle.cl_state.specs.declared.row.Row.TheVariants.{OnReply}
 use Rattle.cl_state.specs.declared.row.Wanted.TheVariants as wanted
 use Rattle.cl_state.specs.declared.state.RankState.{RankState}
-use Rattle.cl_state.specs.Asked.{asked}
-use Rattle.cl_state.specs.Right.{output_of}
-use Rattle.cl_state.specs.Room.{rank_of}
 use Rattle.cl_state.specs.Table.{completing}
 use Rattle.cl_state.specs.Transfers.{source_of, tag_of}
-use Rattle.cl_state.specs.TurnRoom.{IsNext, row_at, writes_of}
-use Rattle.cl_state.specs.Writes.{IsEnough}
 use Rattle.cl_rank.specs.QuickReceives.{IsRightReceive}
-use Rattle.cl_rank.specs.declared.turning.Turn.{Turn}
 
 -- a receive that is right, while a handle is free: it asks for a post, and is opened with it
 pub record Opens (s : RankState) (r : Receiving) (row : Row) (asks : Request) : Type 0 where
@@ -53,11 +46,3 @@ pub record Waits (s : RankState) (c : Completing) (row : Row) (asks : Request) :
   pub pages : missing_pages s.memory.pages buffer capacity ≡ 0
   pub row_is : row ≡ OnReply Blocking (wanted.Message (completing Blocking c buffer capacity))
   pub asks_for : asks ≡ request.Collect post
-
--- the next turn of a hart, with its row, and what it asks the hub. It puts nothing behind the output, and needs no page more
-pub record IsKnown (s : RankState) (t : Turn) (asks : Request) : Type 0 where
-  pub next : IsNext s t.hart t.doing
-  pub row : t.row ≡ row_at s t.hart t.doing
-  pub asks_for : asked (rank_of s) t.hart ≡ ask.Hub asks
-  pub quiet : output_of s.memory t.doing ≡ []
-  pub pages : IsEnough s.memory.pages s.spares (writes_of s t.hart)

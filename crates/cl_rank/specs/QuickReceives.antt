@@ -2,6 +2,7 @@
 use Rattle.std.specs.Prelude.{ℕ, ◌≡◌, ◌≢◌, ◌≤◌, ◌==◌, List, length, set, get_or, is_some, Some, true, false, IsTrue}
 use Rattle.rv_memory.specs.Memory.{Memory}
 use Rattle.rv_memory.specs.MorePages.{missing_pages}
+use Rattle.rv_memory.specs.Present.{IsWritable}
 use Rattle.mp_types.specs.declared.codes.Code.TheVariants as code
 use Rattle.mp_types.specs.declared.replies.Reply.{Reply}
 use Rattle.mp_types.specs.declared.replies.Reply.TheVariants.{Got}
@@ -48,6 +49,7 @@ pub record Receives (s : RankState) (hart : ℕ) (r : Receiving) (request : Requ
   pub turn : doing s.site (part_of (rank_of s) hart) ≡ Go (call.Recv r 0)
   pub moves : (r.source == no_rank) ≡ false
   pub asks : asked (rank_of s) hart ≡ ask.Hub request
+  pub right : IsWritable s.memory r.buffer r.capacity
   pub pages : missing_pages s.memory.pages r.buffer r.capacity ≡ 0
 
 -- a rank that may take such a turn, with the room for it

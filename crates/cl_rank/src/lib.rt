@@ -8,6 +8,7 @@ mod agreeing;
 mod desks;
 mod plains;
 mod quick_handles;
+mod quick_parts;
 mod quick_receives;
 mod quick_sends;
 mod ranks;

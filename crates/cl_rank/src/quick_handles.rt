@@ -9,7 +9,9 @@ ghost use Rattle.rv_memory.specs.Access.{word_at};
 ghost use Rattle.mp_request.specs.declared.entries.Transfer.TheVariants as transfer;
 ghost use Rattle.cl_state.specs.Asked.{is_ecall as is_ecall_of};
 ghost use Rattle.cl_state.specs.Transfers.{source_of, tag_of};
-ghost use Rattle.cl_rank.specs.QuickHandles.{IsKnown, Opens, Waits};
+ghost use Rattle.cl_state.specs.declared.asking.Ask.TheVariants as ask;
+ghost use Rattle.cl_rank.specs.Known.{IsKnown};
+ghost use Rattle.cl_rank.specs.QuickHandles.{Opens, Waits};
 ghost use Rattle.cl_rank.specs.QuickReceives.{IsRightReceive};
 
 use crate::quick_receives::{is_right, request_of};
@@ -105,7 +107,7 @@ fn waited(state: &RankState, call: &Completing) -> Option<(Row, Request)>
 #[inline(always)]
 pub(crate) fn at_handle(state: &RankState, hart: u8) -> Option<(Turn, Request)>
     requires { hart < vec_len state.now.harts }
-    ensures known { IfSome result (λ it. IsKnown state.now it.0 it.1) }
+    ensures known { IfSome result (λ it. IsKnown state.now it.0 (ask.Hub it.1)) }
     ensures hart { IfSome result (λ it. it.0.hart ≡ hart) }
 {
     let at = &state.harts[hart as usize];

@@ -1,15 +1,16 @@
 //! RECVs whose buffer's pages are there, which are worked out straight from the registers.
 
-ghost use Rattle.std.specs.Prelude.{◌≡◌, ◌<◌, ◌∷◌, [], length, vec_len, IfSome, IsTrue, true};
+ghost use Rattle.std.specs.Prelude.{◌≡◌, ◌<◌, length, vec_len, IfSome, IsTrue, true};
 ghost use Rattle.rv_hart.specs.State.{read};
 ghost use Rattle.rv_hart.specs.declared.state.Mode.TheVariants.{Running};
 ghost use Rattle.rv_memory.specs.Access.{word_at};
+ghost use Rattle.rv_memory.specs.MorePages.{missing_pages};
+ghost use Rattle.rv_memory.specs.Present.{IsWritable};
 ghost use Rattle.mp_types.specs.declared.requests.Request.TheVariants as request;
 ghost use Rattle.cl_calls.specs.Calls.{argument, receiving_by};
 ghost use Rattle.cl_state.specs.Asked.{is_ecall as is_ecall_of};
 ghost use Rattle.cl_state.specs.Room.{rank_of};
 ghost use Rattle.cl_state.specs.Transfers.{source_of, tag_of};
-ghost use Rattle.cl_state.specs.Writes.{IsEnough, bytes_from};
 ghost use Rattle.cl_state.specs.Written.{written};
 ghost use Rattle.cl_rank.specs.QuickReceives.{Fits, IsRightReceive, IsRoomyReceive, Receives, got_at, waits_at};
 
@@ -19,7 +20,7 @@ use cl_state::{RankState, is_ecall, source, tag};
 use mp_types::{Reply, Request, Stamp};
 use rv_decode::Reg;
 use rv_hart::{Hart, Mode, Wait};
-use rv_memory::{RankMemory, SparePages};
+use rv_memory::RankMemory;
 
 /// Whether a running hart is at an ECALL that is a RECV which wants no status.
 #[inline(always)]
@@ -133,24 +134,27 @@ pub(crate) fn fits(site: &Site, receiving: &Receiving, reply: &Reply) -> bool
     }
 }
 
-/// Writes bytes where they may be, in pages that are there or are spare. Takes no memory.
-fn write(memory: &mut RankMemory, spares: &mut SparePages, address: u64, bytes: &[u8])
-    requires { IsEnough memory.old.pages spares.old (bytes_from address (length bytes.now) ∷ []) }
+/// Writes bytes where they may be, in pages that are there.
+#[inline(always)]
+fn write(memory: &mut RankMemory, address: u64, bytes: &[u8])
+    requires right { IsWritable memory.old address (length bytes.now) }
+    requires present { missing_pages memory.old.pages address (length bytes.now) ≡ 0 }
     ensures { memory.new ≡ written memory.old address bytes.now }
 {
     if !bytes.is_empty() {
-        let _ = memory.write_with(spares, address, bytes);
+        memory.write_present(address, bytes);
     }
 }
 
 /// Tells the rank that the RECV of a hart has these bytes, at this stamp: they stand in its buffer, and the call is over.
 pub(crate) fn tell_got(state: &mut RankState, hart: u8, buffer: u64, bytes: &[u8], stamp: Stamp)
     requires hart { hart < vec_len state.old.harts }
-    requires room { IsEnough state.old.memory.pages state.old.spares (bytes_from buffer (length bytes.now) ∷ []) }
+    requires right { IsWritable state.old.memory buffer (length bytes.now) }
+    requires present { missing_pages state.old.memory.pages buffer (length bytes.now) ≡ 0 }
     ensures told { rank_of state.new ≡ got_at (rank_of state.old) hart buffer bytes.now stamp }
     ensures harts { vec_len state.new.harts ≡ vec_len state.old.harts }
 {
-    write(&mut state.memory, &mut state.spares, buffer, bytes);
+    write(&mut state.memory, buffer, bytes);
     return_ok(&mut state.harts[hart as usize]);
     state.clock = stamp;
 }

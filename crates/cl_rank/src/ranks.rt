@@ -92,6 +92,14 @@ impl Rank {
         })
     }
 
+    /// Whether the last plain turns ended at a turn that isn't plain, and that one wasn't taken yet.
+    #[inline(always)]
+    pub fn is_at_other(&self) -> bool
+        ensures { result ≡ self.now.is_at_other }
+    {
+        self.is_at_other
+    }
+
     /// Takes a turn of a hart that is there: one event, behind those before. Only a call of the hub reaches the desk,
     /// and only a step on a box its channel: `channels` are those of all links, by number.
     ///

@@ -30,7 +30,7 @@ use crate::quick_receives::{fits, received, tell_got, tell_waits};
 use crate::quick_sends::{sent, tell_sent};
 use crate::ranks::Rank;
 use crate::stops::{Stop, stop_of};
-use cl_calls::{Call, Receiving};
+use cl_calls::{Call, IRECV, PARRIVED, PREADY, Receiving, WAIT};
 use cl_sides::{BoxId, begin, follow_receiver, follow_sender, make_ready, take, test};
 use cl_state::{Answer, Ask, Doing, RankState, Row};
 use cl_trace::{Event, Kind, Trace};
@@ -38,6 +38,7 @@ use mp_request::{OpenRequest, Requests, Transfer};
 use mp_types::{Reply, Request, Stamp};
 use part_channel::{Channel, Progress, Take};
 use part_phase::{Contents, box_words};
+use rv_decode::Reg;
 use rv_hart::{Hart, Mode, Wait};
 use rv_image_types::ImageVersion;
 use rv_memory::RankMemory;
@@ -142,15 +143,21 @@ fn told_of_test(progress: Progress) -> Tidings
 }
 
 /// What a take tells.
-fn told_of_take(version: ImageVersion, take: Take) -> Tidings
-    ensures { TakeTells version take result }
+fn told_of_take(version: ImageVersion, take: &Take) -> Tidings
+    ensures { TakeTells version take.now result }
 {
     match take {
         Take::Taken(bytes, stamp) => {
-            let bytes = Contents::of(version, &bytes[..8 * box_words(version)]);
-            (Answer::Taken(bytes), Kind::Take, stamp)
+            let count = 8 * box_words(version);
+            // two copies of a length that the compiler knows, and none that calls a function for one
+            let bytes = if count == bytes.len() {
+                Contents::of(version, bytes)
+            } else {
+                Contents::of(version, &bytes[..count])
+            };
+            (Answer::Taken(bytes), Kind::Take, *stamp)
         }
-        Take::Missed(stamp) => (Answer::Missed, Kind::Miss, stamp),
+        Take::Missed(stamp) => (Answer::Missed, Kind::Miss, *stamp),
     }
 }
 
@@ -219,8 +226,8 @@ fn note(trace: &mut Trace, asked_box: &mut Option<BoxId>, roomy: &mut Option<u8>
 }
 
 impl Rank {
-    /// A turn of any kind, of a rank that has a turn left and room for its event. A poll that was just in vain is made again
-    /// before anything is laid out for turns of other kinds.
+    /// A turn of any kind, of a rank that has a turn left and room for its event. A poll that was just in vain is made
+    /// again; a SEND and a RECV are tried next, as ranks make these again and again.
     #[inline(never)]
     pub(crate) fn other_turn<R, D: Desk<R>>(
         &mut self,
@@ -233,29 +240,13 @@ impl Rank {
         requires own { IsOver self.old channels.now }
         ensures { TurnEnds D.gives hart channels.now self.old desk.old result self.new desk.new }
     {
-        if self.roomy == Some(hart) && !all_stopped(&self.state) {
+        if all_stopped(&self.state) {
+            return Err(Stop::AllEnded);
+        }
+        if self.roomy == Some(hart) {
             if let Some(request) = self.known(hart) {
                 return self.poll_again(rt, desk, hart, request);
             }
-        }
-        self.slow_turn(channels, rt, desk, hart)
-    }
-
-    /// A turn that is no poll made again. A SEND and a RECV are tried first, as ranks make these again and again.
-    #[inline(never)]
-    fn slow_turn<R, D: Desk<R>>(
-        &mut self,
-        channels: &[Channel],
-        rt: &R,
-        desk: &mut D,
-        hart: u8,
-    ) -> Result<(), Stop>
-        requires has { HasTurn self.old hart }
-        requires own { IsOver self.old channels.now }
-        ensures { TurnEnds D.gives hart channels.now self.old desk.old result self.new desk.new }
-    {
-        if all_stopped(&self.state) {
-            return Err(Stop::AllEnded);
         }
         self.roomy = None;
         if let Some(request) = sent(&self.state, hart) {
@@ -269,8 +260,8 @@ impl Rank {
         self.worked_turn(channels, rt, desk, hart)
     }
 
-    /// A turn that is worked out before its call: an IRECV or a WAIT from the registers, if it can be, and any other by the
-    /// table of calls.
+    /// A turn that is worked out before its call: an IRECV, a WAIT, a PREADY or a PARRIVED from the registers, if it can be,
+    /// and any other by the table of calls.
     fn worked_turn<R, D: Desk<R>>(
         &mut self,
         channels: &[Channel],
@@ -284,10 +275,44 @@ impl Rank {
         ensures { TurnEnds D.gives hart channels.now self.old desk.old result self.new desk.new }
     {
         self.roomy = None;
-        if let Some((turn, request)) = at_handle(&self.state, hart) {
-            self.state.fresh = Vec::new(self.alloc);
-            return self.call_hub(rt, desk, &turn, request);
+        match self.state.harts[hart as usize].get(Reg::new(17)) {
+            IRECV | WAIT => {
+                if let Some((turn, request)) = at_handle(&self.state, hart) {
+                    self.state.fresh = Vec::new(self.alloc);
+                    return self.call_hub(rt, desk, &turn, request);
+                }
+            }
+            PREADY => {
+                if self.ready_turn(channels, hart) {
+                    return Ok(());
+                }
+            }
+            PARRIVED => {
+                if self.look_turn(channels, hart) {
+                    return Ok(());
+                }
+            }
+            _ => {}
         }
+        self.table_turn(channels, rt, desk, hart)
+    }
+
+    /// A turn that is worked out by the table of calls. A function of its own, so that nothing is laid out for it in turns
+    /// that are worked out from the registers.
+    #[inline(never)]
+    fn table_turn<R, D: Desk<R>>(
+        &mut self,
+        channels: &[Channel],
+        rt: &R,
+        desk: &mut D,
+        hart: u8,
+    ) -> Result<(), Stop>
+        requires has { HasTurn self.old hart }
+        requires own { IsOver self.old channels.now }
+        requires active { ¬ (AllStopped (rank_of self.old.state)) }
+        ensures { TurnEnds D.gives hart channels.now self.old desk.old result self.new desk.new }
+    {
+        self.roomy = None;
         let doing = self.state.next(hart);
         let known = self.trace.posts_of(hart);
         let Ok(ask) = self.state.ask_again(hart, &doing, known) else {
@@ -369,6 +394,28 @@ impl Rank {
         }
     }
 
+    /// The same, for turns that are less frequent than a SEND or a RECV: a function of its own, so that the hub's code stands
+    /// in those two calls' code alone.
+    #[inline(never)]
+    fn ask_hub_apart<R, D: Desk<R>>(
+        &self,
+        rt: &R,
+        desk: &mut D,
+        hart: u8,
+        request: Request,
+    ) -> Result<(Request, Reply, Stamp), Stop>
+        requires active { IsActive (rank_of self.now.state) (length self.now.trace.events) self.now.budget }
+        requires asked { asked (rank_of self.now.state) hart ≡ ask.Hub request }
+        ensures request { IfOk result (λ told. told.0 ≡ request) }
+        ensures stamp { IfOk result (λ told. (self.now.state.clock < told.2) × (told.2 < 2 ^ 62)) }
+        ensures gives { IfOk result (λ told. D.gives desk.old self.now.state.site.number hart self.now.state.clock
+            told.0 (Ok (told.1, told.2)) desk.new) }
+        ensures stop { IfErr result (λ stop. StopHolds D.gives hart (rank_of self.now.state)
+            self.now.trace.room (length self.now.trace.events) self.now.budget desk.old desk.new stop) }
+    {
+        self.ask_hub(rt, desk, hart, request)
+    }
+
     /// Makes the call that a hart asked for, and tells the rank its reply.
     fn call_hub<R, D: Desk<R>>(
         &mut self,
@@ -383,7 +430,7 @@ impl Rank {
         ensures { (channels : List ChannelView) → IsOver self.old channels
             → TurnEnds D.gives turn.now.hart channels self.old desk.old result self.new desk.new }
     {
-        let (request, reply, stamp) = self.ask_hub(rt, desk, turn.hart, request)?;
+        let (request, reply, stamp) = self.ask_hub_apart(rt, desk, turn.hart, request)?;
         match reply {
             Reply::NotYet => self.put_off(turn, request, stamp),
             reply => self.tell_reply(turn, request, reply, stamp),
@@ -543,6 +590,7 @@ impl Rank {
 
     /// Asks again for what the last turn was told isn't there yet. Only the desk's answer counts: what the turn does is
     /// worked out where there is something, and the room for it is made.
+    #[inline(never)]
     fn poll_again<R, D: Desk<R>>(
         &mut self,
         rt: &R,
@@ -556,7 +604,7 @@ impl Rank {
         ensures { (channels : List ChannelView) → IsOver self.old channels
             → TurnEnds D.gives hart channels self.old desk.old result self.new desk.new }
     {
-        match self.ask_hub(rt, desk, hart, request)? {
+        match self.ask_hub_apart(rt, desk, hart, request)? {
             (request, Reply::NotYet, stamp) => self.wait_on(hart, request, stamp),
             (request, reply, stamp) => {
                 let turn = self.work_out(hart);
@@ -600,7 +648,13 @@ impl Rank {
     }
 
     /// Makes a partition ready, with the bytes that are to stand in its box.
-    fn make_ready(&mut self, channels: &[Channel], turn: &Turn, place: BoxId, bytes: &Contents)
+    pub(crate) fn make_ready(
+        &mut self,
+        channels: &[Channel],
+        turn: &Turn,
+        place: BoxId,
+        bytes: &Contents,
+    )
         requires may { MayTurn self.old turn.now }
         requires asked { asked (rank_of self.old.state) turn.now.hart ≡ ask.Ready place.link place.part bytes.now }
         requires own { IsOver self.old channels.now }
@@ -632,14 +686,14 @@ impl Rank {
     }
 
     /// Looks whether a box is ready, and takes what lies in it.
-    fn look(&mut self, channels: &[Channel], turn: &Turn, place: BoxId)
+    pub(crate) fn look(&mut self, channels: &[Channel], turn: &Turn, place: BoxId)
         requires may { MayTurn self.old turn.now }
         requires asked { asked (rank_of self.old.state) turn.now.hart ≡ ask.Look place.link place.part }
         requires own { IsOver self.old channels.now }
         ensures { IsQuietTurn turn.now.hart self.old self.new }
     {
         let take = take(&mut self.recvs, channels, place, self.state.clock);
-        let (answer, kind, stamp) = told_of_take(self.state.site.version, take);
+        let (answer, kind, stamp) = told_of_take(self.state.site.version, &take);
         self.state
             .tell_row(turn.hart, &turn.doing, &turn.row, &answer, stamp);
         let noted = uncalled(turn.hart, stamp, kind, Some(place));

@@ -31,14 +31,14 @@ fn spend(ahead: &mut [u64], rank: u8) -> bool
 
 impl<'a> Driver<'a> {
     /// Whether a rank may have a plain turn next, by a plan of one hart. Of a hart that waits nothing is tried, since it
-    /// would be again and again.
+    /// would be again and again, and none behind a run that ended at a call.
     fn may_run_ahead(&self, rank: u8) -> bool
         requires there { rank < vec_len self.now.seats }
         ensures runs { IsTrue result → (seat : Seat) → slice_get self.now.seats.items rank ≡ Some seat
             → seat.stop ≡ None }
     {
         let seat = &self.seats[rank as usize];
-        if seat.stop.is_some() {
+        if seat.stop.is_some() || seat.rank.is_at_other() {
             return false;
         }
         seat.plan.order.len() == 1 && has_running(&seat.rank.state)

@@ -26,7 +26,7 @@ mod writes;
 pub use asking::{Answer, Ask, Doing};
 pub use doing::is_ecall;
 pub use keeping::KeptRank;
-pub use partitions::Awaited;
+pub use partitions::{Awaited, part_contents, place_at};
 pub use pending::{Manner, Pending, Target};
 pub use row::{Outcome, Purpose, Row, Visit, Wanted};
 pub use state::{RankParts, RankState};

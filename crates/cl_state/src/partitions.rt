@@ -146,7 +146,7 @@ impl Doing {
 
 /// Where a partition or box stands: so many sizes behind the buffer. One past all addresses is at the last of them,
 /// where no memory is.
-pub(crate) fn place_at(buffer: u64, part: u8, size: u8) -> u64
+pub fn place_at(buffer: u64, part: u8, size: u8) -> u64
     ensures { result ≡ min (buffer + part * size) (2 ^ 64 - 1) }
 {
     buffer.saturating_add(u64::from(part) * u64::from(size))
@@ -174,20 +174,17 @@ fn boxed(version: ImageVersion, bytes: &[u8]) -> Contents
 
 /// The bytes of a partition, as they are to stand in its box.
 #[tactic(auto, using(crate::proofs::Places::bytes_there))]
-fn contents(standing: &Standing, side: &Partitions, part: u8) -> Contents
+pub fn part_contents(site: &Site, memory: &RankMemory, side: &Partitions, part: u8) -> Contents
     ensures { result
-        ≡ boxed_of standing.now.site.now.version
-        (bytes_at standing.now.memory.now (side.now.buffer + part * side.now.size) side.now.size) }
+        ≡ boxed_of site.now.version
+        (bytes_at memory.now (side.now.buffer + part * side.now.size) side.now.size) }
 {
     // an address past all others is past the memory too
-    prove!(standing.memory.size() <= 1048576);
+    prove!(memory.size() <= 1048576);
     let address = place_at(side.buffer, part, side.size);
     let mut bytes = [0; 255];
     let size = usize::from(side.size);
-    boxed(
-        standing.site.version,
-        read_into(standing.memory, address, &mut bytes[..size]),
-    )
+    boxed(site.version, read_into(memory, address, &mut bytes[..size]))
 }
 
 /// What PREADY asks: that the partition is made ready, with its bytes.
@@ -206,7 +203,7 @@ pub(crate) fn ask_ready(standing: &Standing, handle: u64, part: u64) -> Ask
             Ask::Ready {
                 link: side.link,
                 part,
-                bytes: contents(standing, &side, part),
+                bytes: part_contents(standing.site, standing.memory, &side, part),
             }
         }
     }

@@ -3,16 +3,25 @@ use Rattle.cl_trace.specs.declared.events.Event.{Event}
 use Rattle.cl_state.specs.Room.{rank_of}
 use Rattle.cl_rank.specs.QuickReceives.{got_at}
 use Rattle.cl_rank.specs.Views.{place_in}
-use Rattle.cl_rank.proofs.QuickReceives.{enough, fits_got, went_got}
+use Rattle.cl_rank.proofs.QuickReceives.{fewer_present, fewer_right, fits_got, went_got}
 use Rattle.cl_rank.proofs.Replied.{called_event}
 use Rattle.cl_rank.proofs.Went.{keeps, leaves, no_room}
 use Rattle.cl_rank.proofs.ranks.Rank.tell_message.Goals as goal
 
-pub tell_got-requires-clause-room : goal.tell_got-requires-clause-room
-tell_got-requires-clause-room c =
+pub tell_got-requires-clause-right : goal.tell_got-requires-clause-right
+tell_got-requires-clause-right c =
     let state = c.args.self.now.state in
     let fits = fits_got state.site c.args.receiving c.args.reply c.in-Got.message c.requires.fits c.in-Got.is in
-    enough state c.args.receiving c.as_slice.result.now c.requires.may.turn.pages
+    fewer_right state.memory c.args.receiving.buffer c.args.receiving.capacity (length c.as_slice.result.now)
+    c.requires.may.turn.right
+    (subst (λ (bs : List ℕ). length bs ≤ c.args.receiving.capacity) (sym c.as_slice.ensures) fits.1)
+
+pub tell_got-requires-clause-present : goal.tell_got-requires-clause-present
+tell_got-requires-clause-present c =
+    let state = c.args.self.now.state in
+    let fits = fits_got state.site c.args.receiving c.args.reply c.in-Got.message c.requires.fits c.in-Got.is in
+    fewer_present state.memory.pages c.args.receiving.buffer c.args.receiving.capacity (length c.as_slice.result.now)
+    c.requires.may.turn.pages
     (subst (λ (bs : List ℕ). length bs ≤ c.args.receiving.capacity) (sym c.as_slice.ensures) fits.1)
 
 pub invariant_of-self : goal.invariant_of-self

@@ -1,14 +1,10 @@
-use Rattle.std.proofs.Common.{ap, refl, subst, sym, ◌∙◌}
-use Rattle.cl_state.specs.Rank.{Rank as RankAlone}
+use Rattle.std.proofs.Common.{refl}
+use Rattle.cl_state.specs.declared.asking.Ask.TheVariants as ask
 use Rattle.cl_state.specs.declared.state.RankState.{RankState}
-use Rattle.cl_rank.specs.QuickHandles.{IsKnown}
-use Rattle.cl_sides.specs.Sides.{AreChannelsOf}
-use Rattle.cl_rank.specs.Views.{view_of}
-use Rattle.cl_rank.proofs.QuickHandles.{has_room}
-use Rattle.cl_rank.proofs.Asks.{asks_nothing_plain, asks_nothing_local, asks_nothing_held, asks_nothing_idle}
+use Rattle.cl_rank.specs.Known.{IsKnown}
+use Rattle.cl_rank.proofs.Known.{has_room}
 use Rattle.cl_rank.proofs.Ends.{by_hart, is_active}
-use Rattle.cl_rank.proofs.Same.{same_keeps}
-use Rattle.cl_rank.proofs.SameEnds.{quiet_ends, same_ends, seen}
+use Rattle.cl_rank.proofs.SameEnds.{quiet_ends, same_ends}
 use Rattle.cl_rank.proofs.ranks.Rank.worked_turn.Goals as goal
 
 pub call_hub-requires-clause-may : goal.call_hub-requires-clause-may
@@ -16,10 +12,10 @@ call_hub-requires-clause-may g c =
     let has = c.requires.has in
     let it = c.in-Some in
     let old : RankState = c.args.self.now.state in
-    let new : RankState = record old { fresh = c.new.result } in
+    let new : RankState = record old { fresh = c.new-in-Some.result } in
     let was = it.ensures.known in
     let at = was.next in
-    let turn : IsKnown new it.turn it.request = record {
+    let turn : IsKnown new it.turn (ask.Hub it.request) = record {
       next = record { there = at.there; spelled = at.spelled; right = at.right; running = at.running };
       row = was.row;
       asks_for = was.asks_for;
@@ -30,7 +26,7 @@ call_hub-requires-clause-may g c =
       has = record { there = at.there; low = has.low; left = has.left; few = has.few; space = has.space };
       next = turn.next;
       row = turn.row;
-      room = has_room new it.turn it.request turn c.new.ensures.items;
+      room = has_room new it.turn (ask.Hub it.request) turn c.new-in-Some.ensures.items;
     }
 
 pub call_hub-requires-clause-asked : goal.call_hub-requires-clause-asked
@@ -42,72 +38,14 @@ returns-in-Some g c =
     c.call_hub.new.self c.args.desk.now c.call_hub.new.desk (λ none. none)
     (by_hart c.in-Some.ensures.hart (c.call_hub.ensures c.args.channels.now c.requires.own))
 
-pub go_alone-requires-clause-asked : goal.go_alone-requires-clause-asked
-go_alone-requires-clause-asked g c =
-    asks_nothing_plain _ _ c.args.hart c.in-Ok-lay_out.ensures.same (sym c.in-Ok.ensures ∙ c.in-Plain.is)
+pub returns-then-ready_turn : goal.returns-then-ready_turn
+returns-then-ready_turn g c =
+    quiet_ends g.D.Desk.gives c.args.hart c.args.self.now c.args.channels.now _ refl refl refl _ c.args.desk.now
+    (is_active c.args.self.now c.args.hart c.requires.active c.requires.has) c.requires.own
+    (c.ready_turn.ensures.turned c.if-ready_turn.true)
 
-pub go_alone-requires-in-Local-clause-asked : goal.go_alone-requires-in-Local-clause-asked
-go_alone-requires-in-Local-clause-asked g c =
-    asks_nothing_local _ _ c.args.hart c.in-Ok-lay_out.ensures.same (sym c.in-Ok.ensures ∙ c.in-Local.is)
-
-pub go_alone-requires-in-Held-clause-asked : goal.go_alone-requires-in-Held-clause-asked
-go_alone-requires-in-Held-clause-asked g c =
-    asks_nothing_held _ _ c.args.hart c.in-Ok-lay_out.ensures.same (sym c.in-Ok.ensures ∙ c.in-Held.is)
-
-pub go_alone-requires-in-Idle-clause-asked : goal.go_alone-requires-in-Idle-clause-asked
-go_alone-requires-in-Idle-clause-asked g c =
-    asks_nothing_idle _ _ c.args.hart c.in-Ok-lay_out.ensures.same (sym c.in-Ok.ensures ∙ c.in-Idle.is)
-
-pub invariant_of-self-2 : goal.invariant_of-self-2
-invariant_of-self-2 g c = same_keeps c.args.self.now c.lay_out.new.self c.lay_out.ensures.same
-
-pub returns-in-Plain : goal.returns-in-Plain
-returns-in-Plain g c =
-    quiet_ends g.D.Desk.gives c.args.hart c.args.self.now c.args.channels.now _
-    (ap (seen c.args.self.now) c.in-Ok-lay_out.ensures.same) refl c.in-Ok-lay_out.ensures.harts _ c.args.desk.now
-    (is_active c.args.self.now c.args.hart c.requires.active c.requires.has) c.requires.own c.go_alone.ensures
-
-pub returns-in-Local : goal.returns-in-Local
-returns-in-Local g c =
-    quiet_ends g.D.Desk.gives c.args.hart c.args.self.now c.args.channels.now _
-    (ap (seen c.args.self.now) c.in-Ok-lay_out.ensures.same) refl c.in-Ok-lay_out.ensures.harts _ c.args.desk.now
-    (is_active c.args.self.now c.args.hart c.requires.active c.requires.has) c.requires.own c.go_alone-in-Local.ensures
-
-pub returns-in-Held : goal.returns-in-Held
-returns-in-Held g c =
-    quiet_ends g.D.Desk.gives c.args.hart c.args.self.now c.args.channels.now _
-    (ap (seen c.args.self.now) c.in-Ok-lay_out.ensures.same) refl c.in-Ok-lay_out.ensures.harts _ c.args.desk.now
-    (is_active c.args.self.now c.args.hart c.requires.active c.requires.has) c.requires.own c.go_alone-in-Held.ensures
-
-pub returns-in-Idle : goal.returns-in-Idle
-returns-in-Idle g c =
-    quiet_ends g.D.Desk.gives c.args.hart c.args.self.now c.args.channels.now _
-    (ap (seen c.args.self.now) c.in-Ok-lay_out.ensures.same) refl c.in-Ok-lay_out.ensures.harts _ c.args.desk.now
-    (is_active c.args.self.now c.args.hart c.requires.active c.requires.has) c.requires.own c.go_alone-in-Idle.ensures
-
-pub returns-in-Ready : goal.returns-in-Ready
-returns-in-Ready g c =
-    quiet_ends g.D.Desk.gives c.args.hart c.args.self.now c.args.channels.now _
-    (ap (seen c.args.self.now) c.in-Ok-lay_out.ensures.same) refl c.in-Ok-lay_out.ensures.harts _ c.args.desk.now
-    (is_active c.args.self.now c.args.hart c.requires.active c.requires.has) c.requires.own c.make_ready.ensures
-
-pub returns-in-Look : goal.returns-in-Look
-returns-in-Look g c =
-    quiet_ends g.D.Desk.gives c.args.hart c.args.self.now c.args.channels.now _
-    (ap (seen c.args.self.now) c.in-Ok-lay_out.ensures.same) refl c.in-Ok-lay_out.ensures.harts _ c.args.desk.now
-    (is_active c.args.self.now c.args.hart c.requires.active c.requires.has) c.requires.own c.look.ensures
-
-pub returns-in-Freed : goal.returns-in-Freed
-returns-in-Freed g c =
-    quiet_ends g.D.Desk.gives c.args.hart c.args.self.now c.args.channels.now _
-    (ap (seen c.args.self.now) c.in-Ok-lay_out.ensures.same) refl c.in-Ok-lay_out.ensures.harts _ c.args.desk.now
-    (is_active c.args.self.now c.args.hart c.requires.active c.requires.has) c.requires.own c.test.ensures
-
-pub returns-in-Hub : goal.returns-in-Hub
-returns-in-Hub g c =
-    same_ends g.D.Desk.gives c.args.hart c.args.self.now c.args.channels.now _
-    (ap (seen c.args.self.now) c.in-Ok-lay_out.ensures.same) refl c.in-Ok-lay_out.ensures.harts
-    c.call_hub-in-Hub.result _ c.args.desk.now c.call_hub-in-Hub.new.desk (λ none. none)
-    (c.call_hub-in-Hub.ensures c.args.channels.now
-    (subst (λ (r : RankAlone). AreChannelsOf r.site.version c.args.channels.now (view_of c.args.self.now).sides)
-    (sym c.in-Ok-lay_out.ensures.same) c.requires.own))
+pub returns-then-look_turn : goal.returns-then-look_turn
+returns-then-look_turn g c =
+    quiet_ends g.D.Desk.gives c.args.hart c.args.self.now c.args.channels.now _ refl refl refl _ c.args.desk.now
+    (is_active c.args.self.now c.args.hart c.requires.active c.requires.has) c.requires.own
+    (c.look_turn.ensures.turned c.if-look_turn.true)
