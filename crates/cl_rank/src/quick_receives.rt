@@ -147,6 +147,7 @@ fn write(memory: &mut RankMemory, address: u64, bytes: &[u8])
 }
 
 /// Tells the rank that the RECV of a hart has these bytes, at this stamp: they stand in its buffer, and the call is over.
+#[inline(always)]
 pub(crate) fn tell_got(state: &mut RankState, hart: u8, buffer: u64, bytes: &[u8], stamp: Stamp)
     requires hart { hart < vec_len state.old.harts }
     requires right { IsWritable state.old.memory buffer (length bytes.now) }

@@ -365,8 +365,9 @@ impl Rank {
         note(&mut self.trace, &mut self.asked_box, &mut self.roomy, noted);
     }
 
-    /// Makes a call of the hub: the request once more, the reply, and its stamp.
-    #[inline(always)]
+    /// Makes a call of the hub that is no SEND and no RECV, in whose code the hub's own stands: the request once more, the
+    /// reply, and its stamp.
+    #[inline(never)]
     fn ask_hub<R, D: Desk<R>>(
         &self,
         rt: &R,
@@ -394,28 +395,6 @@ impl Rank {
         }
     }
 
-    /// The same, for turns that are less frequent than a SEND or a RECV: a function of its own, so that the hub's code stands
-    /// in those two calls' code alone.
-    #[inline(never)]
-    fn ask_hub_apart<R, D: Desk<R>>(
-        &self,
-        rt: &R,
-        desk: &mut D,
-        hart: u8,
-        request: Request,
-    ) -> Result<(Request, Reply, Stamp), Stop>
-        requires active { IsActive (rank_of self.now.state) (length self.now.trace.events) self.now.budget }
-        requires asked { asked (rank_of self.now.state) hart ≡ ask.Hub request }
-        ensures request { IfOk result (λ told. told.0 ≡ request) }
-        ensures stamp { IfOk result (λ told. (self.now.state.clock < told.2) × (told.2 < 2 ^ 62)) }
-        ensures gives { IfOk result (λ told. D.gives desk.old self.now.state.site.number hart self.now.state.clock
-            told.0 (Ok (told.1, told.2)) desk.new) }
-        ensures stop { IfErr result (λ stop. StopHolds D.gives hart (rank_of self.now.state)
-            self.now.trace.room (length self.now.trace.events) self.now.budget desk.old desk.new stop) }
-    {
-        self.ask_hub(rt, desk, hart, request)
-    }
-
     /// Makes the call that a hart asked for, and tells the rank its reply.
     fn call_hub<R, D: Desk<R>>(
         &mut self,
@@ -430,7 +409,7 @@ impl Rank {
         ensures { (channels : List ChannelView) → IsOver self.old channels
             → TurnEnds D.gives turn.now.hart channels self.old desk.old result self.new desk.new }
     {
-        let (request, reply, stamp) = self.ask_hub_apart(rt, desk, turn.hart, request)?;
+        let (request, reply, stamp) = self.ask_hub(rt, desk, turn.hart, request)?;
         match reply {
             Reply::NotYet => self.put_off(turn, request, stamp),
             reply => self.tell_reply(turn, request, reply, stamp),
@@ -439,7 +418,7 @@ impl Rank {
     }
 
     /// Makes the call of a SEND that was worked out, and tells the rank its reply. As a rule that is the message's post.
-    #[inline(always)]
+    #[inline(never)]
     fn send<R, D: Desk<R>>(
         &mut self,
         hart: u8,
@@ -452,12 +431,24 @@ impl Rank {
         ensures { (channels : List ChannelView) → IsOver self.old channels
             → TurnEnds D.gives hart channels self.old desk.old result self.new desk.new }
     {
-        let (request, reply, stamp) = self.ask_hub(rt, desk, hart, request)?;
+        let Ok(copy) = request.try_copy(self.alloc) else {
+            return Err(Stop::Memory);
+        };
+        let (reply, stamp) = match desk.call(
+            rt,
+            self.state.site.number,
+            hart,
+            self.state.clock,
+            request,
+        ) {
+            Ok(told) => told,
+            Err(fault) => return Err(stop_of(fault)),
+        };
         match reply {
-            Reply::Posted { post, done } => self.tell_posted(hart, request, post, done, stamp),
+            Reply::Posted { post, done } => self.tell_posted(hart, copy, post, done, stamp),
             reply => {
                 let turn = self.work_out(hart);
-                self.tell_reply(&turn, request, reply, stamp);
+                self.tell_reply(&turn, copy, reply, stamp);
             }
         }
         Ok(())
@@ -477,7 +468,7 @@ impl Rank {
 
     /// Makes the call of a RECV that was worked out, and tells the rank its reply. As a rule that is a message that fits,
     /// or a post.
-    #[inline(always)]
+    #[inline(never)]
     fn receive<R, D: Desk<R>>(
         &mut self,
         hart: u8,
@@ -491,18 +482,30 @@ impl Rank {
         ensures { (channels : List ChannelView) → IsOver self.old channels
             → TurnEnds D.gives hart channels self.old desk.old result self.new desk.new }
     {
-        let (request, reply, stamp) = self.ask_hub(rt, desk, hart, request)?;
+        let Ok(copy) = request.try_copy(self.alloc) else {
+            return Err(Stop::Memory);
+        };
+        let (reply, stamp) = match desk.call(
+            rt,
+            self.state.site.number,
+            hart,
+            self.state.clock,
+            request,
+        ) {
+            Ok(told) => told,
+            Err(fault) => return Err(stop_of(fault)),
+        };
         if fits(&self.state.site, &receiving, &reply) {
-            self.tell_message(hart, receiving, request, reply, stamp);
+            self.tell_message(hart, receiving, copy, reply, stamp);
             return Ok(());
         }
         match reply {
             Reply::Posted { post, done } => {
-                self.tell_waiting(hart, receiving, request, post, done, stamp)
+                self.tell_waiting(hart, receiving, copy, post, done, stamp)
             }
             reply => {
                 let turn = self.work_out(hart);
-                self.tell_reply(&turn, request, reply, stamp);
+                self.tell_reply(&turn, copy, reply, stamp);
             }
         }
         Ok(())
@@ -604,7 +607,7 @@ impl Rank {
         ensures { (channels : List ChannelView) → IsOver self.old channels
             → TurnEnds D.gives hart channels self.old desk.old result self.new desk.new }
     {
-        match self.ask_hub_apart(rt, desk, hart, request)? {
+        match self.ask_hub(rt, desk, hart, request)? {
             (request, Reply::NotYet, stamp) => self.wait_on(hart, request, stamp),
             (request, reply, stamp) => {
                 let turn = self.work_out(hart);
