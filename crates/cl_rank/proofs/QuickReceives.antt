@@ -124,8 +124,7 @@ receives_so state hart at r q read_at there running ecall number none is right a
           ∙ asks_receive state.memory (r.source == no_rank) r.buffer r.capacity r.comm
           (source_of state.site r.comm r.source) (tag_of r.tag) moves
           ∙ ap ask.Hub (sym asks);
-      right = right.0.5;
-      pages = right.1;
+      roomy = right;
     }
 
 -- ---- it needs no page more
@@ -148,7 +147,7 @@ has_room state hart r q receives none =
     let status : missing_pages ps 0 0 ≤ 0 = one_enough ps 0 0 0 (none_enough ps 0 0) in (
       (none ∙ sym (ap (output_of state.memory) receives.turn), omega (arith, count, within)),
       subst (λ rs. IsEnough ps state.spares rs) (sym writes)
-          (enough_missing ps state.spares (message_into target r.capacity) (omega (arith, receives.pages, status))),
+          (enough_missing ps state.spares (message_into target r.capacity) (omega (arith, receives.roomy.1, status))),
     )
 
 -- ---- where its message goes

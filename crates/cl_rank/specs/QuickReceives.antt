@@ -2,11 +2,11 @@
 use Rattle.std.specs.Prelude.{ℕ, ◌≡◌, ◌≢◌, ◌≤◌, ◌==◌, List, length, set, get_or, is_some, Some, true, false, IsTrue}
 use Rattle.rv_memory.specs.Memory.{Memory}
 use Rattle.rv_memory.specs.MorePages.{missing_pages}
-use Rattle.rv_memory.specs.Present.{IsWritable}
 use Rattle.mp_types.specs.declared.codes.Code.TheVariants as code
 use Rattle.mp_types.specs.declared.replies.Reply.{Reply}
 use Rattle.mp_types.specs.declared.replies.Reply.TheVariants.{Got}
 use Rattle.mp_types.specs.declared.requests.Request.{Request}
+use Rattle.mp_types.specs.declared.requests.Request.TheVariants as request
 use Rattle.cl_calls.specs.declared.calls.Call.TheVariants as call
 use Rattle.cl_calls.specs.declared.calls.Receiving.{Receiving}
 use Rattle.cl_calls.specs.declared.sites.Site.{Site}
@@ -21,6 +21,7 @@ use Rattle.cl_state.specs.Asked.{asked, doing, no_hart, part_of}
 use Rattle.cl_state.specs.Rank.{Rank}
 use Rattle.cl_state.specs.Room.{rank_of}
 use Rattle.cl_state.specs.Told.{returned}
+use Rattle.cl_state.specs.Transfers.{source_of, tag_of}
 use Rattle.rv_hart.specs.State.{in_mode}
 use Rattle.rv_hart.specs.declared.state.Mode.TheVariants.{Waiting}
 use Rattle.rv_hart.specs.declared.state.Wait.TheVariants.{Post}
@@ -44,13 +45,16 @@ abbrev pub IsRoomyReceive : Site → Memory → Receiving → Type 0
 IsRoomyReceive site memory r =
     IsRightReceive site memory r × (missing_pages memory.pages r.buffer r.capacity ≡ 0)
 
+-- what it asks the hub: its message, or a post
+abbrev pub request_in : RankState → Receiving → Request
+request_in s r = request.Recv true r.comm (source_of s.site r.comm r.source) (tag_of r.tag)
+
 -- the turn of a hart is a RECV of this kind, which wants no status, and asks the hub this
 pub record Receives (s : RankState) (hart : ℕ) (r : Receiving) (request : Request) : Type 0 where
   pub turn : doing s.site (part_of (rank_of s) hart) ≡ Go (call.Recv r 0)
   pub moves : (r.source == no_rank) ≡ false
   pub asks : asked (rank_of s) hart ≡ ask.Hub request
-  pub right : IsWritable s.memory r.buffer r.capacity
-  pub pages : missing_pages s.memory.pages r.buffer r.capacity ≡ 0
+  pub roomy : IsRoomyReceive s.site s.memory r
 
 -- a rank that may take such a turn, with the room for it
 pub record MayReceive (rank : Running) (hart : ℕ) (r : Receiving) (request : Request) : Type 0 where

@@ -12,7 +12,8 @@ ghost use Rattle.cl_state.specs.Asked.{is_ecall as is_ecall_of};
 ghost use Rattle.cl_state.specs.Room.{rank_of};
 ghost use Rattle.cl_state.specs.Transfers.{source_of, tag_of};
 ghost use Rattle.cl_state.specs.Written.{written};
-ghost use Rattle.cl_rank.specs.QuickReceives.{Fits, IsRightReceive, IsRoomyReceive, Receives, got_at, waits_at};
+ghost use Rattle.cl_rank.specs.QuickReceives.{Fits, IsRightReceive, IsRoomyReceive, Receives, got_at};
+ghost use Rattle.cl_rank.specs.QuickReceives.{request_in, waits_at};
 
 use crate::quick_sends::return_ok;
 use cl_calls::{ANY, NO_RANK, Peer, RECV, Receiving, Site, position};
@@ -98,12 +99,11 @@ pub(crate) fn request_of(
     }
 }
 
-/// The receive of a hart whose turn is a RECV of this kind, and what it asks. Any other turn is left to the table of
-/// calls.
+/// The receive of a hart whose turn is a RECV of this kind. Any other turn is left to the table of calls.
 #[inline(always)]
-pub(crate) fn received(state: &RankState, hart: u8) -> Option<(Receiving, Request)>
+pub(crate) fn received(state: &RankState, hart: u8) -> Option<Receiving>
     requires { hart < vec_len state.now.harts }
-    ensures { IfSome result (λ it. Receives state.now hart it.0 it.1) }
+    ensures { IfSome result (λ receiving. Receives state.now hart receiving (request_in state.now receiving)) }
 {
     let at = &state.harts[hart as usize];
     if !is_at_recv(at, &state.memory) {
@@ -113,10 +113,7 @@ pub(crate) fn received(state: &RankState, hart: u8) -> Option<(Receiving, Reques
     if !is_roomy(&state.site, &state.memory, &receiving) {
         return None;
     }
-    Some((
-        receiving,
-        request_of(&state.site, &state.memory, true, &receiving),
-    ))
+    Some(receiving)
 }
 
 /// Whether a reply is a message of a member, which the buffer takes whole.

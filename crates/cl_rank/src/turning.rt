@@ -13,7 +13,7 @@ ghost use Rattle.cl_state.specs.Room.{rank_of};
 ghost use Rattle.cl_state.specs.Told.{told};
 ghost use Rattle.cl_state.specs.TurnRoom.{IsNext, row_at};
 ghost use Rattle.cl_rank.specs.Follows.{named_link as named_link_in};
-ghost use Rattle.cl_rank.specs.QuickReceives.{Fits, MayReceive};
+ghost use Rattle.cl_rank.specs.QuickReceives.{Fits, IsRightReceive, MayReceive, request_in};
 ghost use Rattle.cl_rank.specs.QuickSends.{MaySend};
 ghost use Rattle.cl_rank.specs.Roomy.{IsAgain, is_anew as is_anew_in, repeats as repeats_in};
 ghost use Rattle.cl_rank.specs.Tidings.{HasLooked, TakeTells, TestTells};
@@ -26,7 +26,7 @@ ghost use Rattle.cl_trace.specs.Rising.{last_stamp};
 
 use crate::desks::Desk;
 use crate::quick_handles::at_handle;
-use crate::quick_receives::{fits, received, tell_got, tell_waits};
+use crate::quick_receives::{fits, received, request_of, tell_got, tell_waits};
 use crate::quick_sends::{sent, tell_sent};
 use crate::ranks::Rank;
 use crate::stops::{Stop, stop_of};
@@ -253,9 +253,9 @@ impl Rank {
             self.state.fresh = Vec::new(self.alloc);
             return self.send(hart, request, rt, desk);
         }
-        if let Some((receiving, request)) = received(&self.state, hart) {
+        if let Some(receiving) = received(&self.state, hart) {
             self.state.fresh = Vec::new(self.alloc);
-            return self.receive(hart, receiving, request, rt, desk);
+            return self.receive(hart, receiving, rt, desk);
         }
         self.worked_turn(channels, rt, desk, hart)
     }
@@ -466,6 +466,15 @@ impl Rank {
         note(&mut self.trace, &mut self.asked_box, &mut self.roomy, noted);
     }
 
+    /// What a RECV asks that was worked out.
+    #[inline(always)]
+    fn request_of(&self, receiving: &Receiving) -> Request
+        requires { IsRightReceive self.now.state.site self.now.state.memory receiving.now }
+        ensures { result ≡ request_in self.now.state receiving.now }
+    {
+        request_of(&self.state.site, &self.state.memory, true, receiving)
+    }
+
     /// Makes the call of a RECV that was worked out, and tells the rank its reply. As a rule that is a message that fits,
     /// or a post.
     #[inline(never)]
@@ -473,18 +482,16 @@ impl Rank {
         &mut self,
         hart: u8,
         receiving: Receiving,
-        request: Request,
         rt: &R,
         desk: &mut D,
     ) -> Result<(), Stop>
-        requires may { MayReceive self.old hart receiving request }
+        requires may { MayReceive self.old hart receiving (request_in self.old.state receiving) }
         requires active { ¬ (AllStopped (rank_of self.old.state)) }
         ensures { (channels : List ChannelView) → IsOver self.old channels
             → TurnEnds D.gives hart channels self.old desk.old result self.new desk.new }
     {
-        let Ok(copy) = request.try_copy(self.alloc) else {
-            return Err(Stop::Memory);
-        };
+        let request = self.request_of(&receiving);
+        let same = self.request_of(&receiving);
         let (reply, stamp) = match desk.call(
             rt,
             self.state.site.number,
@@ -496,16 +503,16 @@ impl Rank {
             Err(fault) => return Err(stop_of(fault)),
         };
         if fits(&self.state.site, &receiving, &reply) {
-            self.tell_message(hart, receiving, copy, reply, stamp);
+            self.tell_message(hart, receiving, same, reply, stamp);
             return Ok(());
         }
         match reply {
             Reply::Posted { post, done } => {
-                self.tell_waiting(hart, receiving, copy, post, done, stamp)
+                self.tell_waiting(hart, receiving, same, post, done, stamp)
             }
             reply => {
                 let turn = self.work_out(hart);
-                self.tell_reply(&turn, copy, reply, stamp);
+                self.tell_reply(&turn, same, reply, stamp);
             }
         }
         Ok(())

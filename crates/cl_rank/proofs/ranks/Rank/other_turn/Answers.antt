@@ -1,7 +1,7 @@
 use Rattle.std.proofs.Common.{◌≡◌, Some, refl, rules}
 use Rattle.cl_rank.proofs.Stayed.{asks_again, waits_on}
 use Rattle.cl_state.specs.declared.state.RankState.{RankState}
-use Rattle.cl_rank.specs.QuickReceives.{Receives}
+use Rattle.cl_rank.specs.QuickReceives.{Receives, request_in}
 use Rattle.cl_rank.proofs.QuickReceives.{has_room}
 use Rattle.cl_rank.proofs.SameEnds.{same_ends}
 use Rattle.cl_rank.proofs.ranks.Rank.other_turn.Goals as goal
@@ -31,12 +31,12 @@ receive-requires-clause-may g c =
     let old : RankState = c.args.self.now.state in
     let new : RankState = record old { fresh = c.new-in-Some-received.result } in
     let was = it.ensures in
-    let turn : Receives new c.args.hart it.receiving it.request =
-    record { turn = was.turn; moves = was.moves; asks = was.asks; right = was.right; pages = was.pages } in
+    let turn : Receives new c.args.hart it.receiving (request_in new it.receiving) =
+    record { turn = was.turn; moves = was.moves; asks = was.asks; roomy = was.roomy } in
     record {
       has = record { there = has.there; low = has.low; left = has.left; few = has.few; space = has.space };
       turn = turn;
-      room = has_room new c.args.hart it.receiving it.request turn c.new-in-Some-received.ensures.items;
+      room = has_room new c.args.hart it.receiving (request_in new it.receiving) turn c.new-in-Some-received.ensures.items;
     }
 
 pub returns-in-Some-sent : goal.returns-in-Some-sent

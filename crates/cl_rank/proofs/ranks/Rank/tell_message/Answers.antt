@@ -13,7 +13,7 @@ tell_got-requires-clause-right c =
     let state = c.args.self.now.state in
     let fits = fits_got state.site c.args.receiving c.args.reply c.in-Got.message c.requires.fits c.in-Got.is in
     fewer_right state.memory c.args.receiving.buffer c.args.receiving.capacity (length c.as_slice.result.now)
-    c.requires.may.turn.right
+    c.requires.may.turn.roomy.0.5
     (subst (λ (bs : List ℕ). length bs ≤ c.args.receiving.capacity) (sym c.as_slice.ensures) fits.1)
 
 pub tell_got-requires-clause-present : goal.tell_got-requires-clause-present
@@ -21,7 +21,7 @@ tell_got-requires-clause-present c =
     let state = c.args.self.now.state in
     let fits = fits_got state.site c.args.receiving c.args.reply c.in-Got.message c.requires.fits c.in-Got.is in
     fewer_present state.memory.pages c.args.receiving.buffer c.args.receiving.capacity (length c.as_slice.result.now)
-    c.requires.may.turn.pages
+    c.requires.may.turn.roomy.1
     (subst (λ (bs : List ℕ). length bs ≤ c.args.receiving.capacity) (sym c.as_slice.ensures) fits.1)
 
 pub invariant_of-self : goal.invariant_of-self
