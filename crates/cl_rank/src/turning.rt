@@ -149,7 +149,7 @@ fn told_of_take(version: ImageVersion, take: &Take) -> Tidings
     match take {
         Take::Taken(bytes, stamp) => {
             let count = 8 * box_words(version);
-            // two copies of a length that the compiler knows, and none that calls a function for one
+            // the compiler knows both lengths, so it calls no function to copy the bytes
             let bytes = if count == bytes.len() {
                 Contents::of(version, bytes)
             } else {
@@ -365,8 +365,8 @@ impl Rank {
         note(&mut self.trace, &mut self.asked_box, &mut self.roomy, noted);
     }
 
-    /// Makes a call of the hub that is no SEND and no RECV, in whose code the hub's own stands: the request once more, the
-    /// reply, and its stamp.
+    /// Makes a call of the hub: the request once more, the reply, and its stamp. `send` and `receive` call it themselves,
+    /// so that the hub's code is compiled into theirs.
     #[inline(never)]
     fn ask_hub<R, D: Desk<R>>(
         &self,
@@ -490,8 +490,9 @@ impl Rank {
         ensures { (channels : List ChannelView) → IsOver self.old channels
             → TurnEnds D.gives hart channels self.old desk.old result self.new desk.new }
     {
+        // the hub takes one of them, and the trace keeps the other
         let request = self.request_of(&receiving);
-        let same = self.request_of(&receiving);
+        let copy = self.request_of(&receiving);
         let (reply, stamp) = match desk.call(
             rt,
             self.state.site.number,
@@ -503,16 +504,16 @@ impl Rank {
             Err(fault) => return Err(stop_of(fault)),
         };
         if fits(&self.state.site, &receiving, &reply) {
-            self.tell_message(hart, receiving, same, reply, stamp);
+            self.tell_message(hart, receiving, copy, reply, stamp);
             return Ok(());
         }
         match reply {
             Reply::Posted { post, done } => {
-                self.tell_waiting(hart, receiving, same, post, done, stamp)
+                self.tell_waiting(hart, receiving, copy, post, done, stamp)
             }
             reply => {
                 let turn = self.work_out(hart);
-                self.tell_reply(&turn, same, reply, stamp);
+                self.tell_reply(&turn, copy, reply, stamp);
             }
         }
         Ok(())
