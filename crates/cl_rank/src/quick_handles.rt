@@ -3,11 +3,8 @@
 //! A rank that receives so makes these calls again and again. Their checks aren't made one by one, and what they ask and
 //! their rows aren't looked up. Their replies are told by the rows, as those of other calls are.
 
-ghost use Rattle.std.specs.Prelude.{◌≡◌, ◌<◌, IfSome, IsTrue, true, vec_len};
-ghost use Rattle.rv_hart.specs.declared.state.Mode.TheVariants.{Running};
-ghost use Rattle.rv_memory.specs.Access.{word_at};
+ghost use Rattle.std.specs.Prelude.{◌≡◌, ◌<◌, IfSome, vec_len};
 ghost use Rattle.mp_request.specs.declared.entries.Transfer.TheVariants as transfer;
-ghost use Rattle.cl_state.specs.Asked.{is_ecall as is_ecall_of};
 ghost use Rattle.cl_state.specs.Transfers.{source_of, tag_of};
 ghost use Rattle.cl_state.specs.declared.asking.Ask.TheVariants as ask;
 ghost use Rattle.cl_rank.specs.Known.{IsKnown};
@@ -15,25 +12,13 @@ ghost use Rattle.cl_rank.specs.QuickHandles.{Opens, Waits};
 ghost use Rattle.cl_rank.specs.QuickReceives.{IsRightReceive};
 
 use crate::quick_receives::{is_right, request_of};
+use crate::quick_sends::is_at_call;
 use crate::turning::Turn;
 use cl_calls::{Call, Completing, Receiving, Site};
-use cl_state::{Doing, Manner, Purpose, RankState, Row, Target, Wanted, is_ecall, source, tag};
+use cl_state::{Doing, Manner, Purpose, RankState, Row, Target, Wanted, source, tag};
 use mp_request::{OpenRequest, Progress, State, Transfer};
 use mp_types::Request;
-use rv_hart::{Hart, Mode};
 use rv_memory::RankMemory;
-
-/// Whether a running hart is at an ECALL.
-#[inline(always)]
-fn is_at_call(hart: &Hart, memory: &RankMemory) -> bool
-    ensures running { IsTrue result → hart.now.mode ≡ Running }
-    ensures ecall { IsTrue result → is_ecall_of (word_at memory.now hart.now.pc) ≡ true }
-{
-    let Mode::Running = hart.mode() else {
-        return false;
-    };
-    is_ecall(memory.text_word(hart.pc()))
-}
 
 /// What a receive that is right transfers.
 #[inline(always)]

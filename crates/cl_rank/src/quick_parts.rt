@@ -4,36 +4,18 @@
 //! their rows aren't looked up. What a box answers is told by the rows.
 
 ghost use Rattle.std.specs.Prelude.{◌≡◌, IfSome, IsFalse, IsTrue, true};
-ghost use Rattle.rv_hart.specs.State.{read};
-ghost use Rattle.rv_hart.specs.declared.state.Mode.TheVariants.{Running};
-ghost use Rattle.rv_memory.specs.Access.{word_at};
-ghost use Rattle.cl_state.specs.Asked.{is_ecall as is_ecall_of};
 ghost use Rattle.cl_rank.specs.QuickParts.{AwaitsBox, MayBeReady};
 ghost use Rattle.cl_rank.specs.Views.{HasTurn, IsOver, IsQuietTurn};
 
+use crate::quick_sends::is_at;
 use crate::ranks::Rank;
 use crate::turning::Turn;
 use cl_calls::{Call, PARRIVED, PREADY, receiving_side, sending_side};
 use cl_sides::BoxId;
-use cl_state::{Doing, RankState, Row, Visit, is_ecall, part_contents, place_at};
+use cl_state::{Doing, RankState, Row, Visit, part_contents, place_at};
 use mp_request::Partitions;
 use part_channel::Channel;
 use rv_decode::Reg;
-use rv_hart::{Hart, Mode};
-use rv_memory::RankMemory;
-
-/// Whether a running hart is at an ECALL that is the call of this number.
-#[inline(always)]
-fn is_at(hart: &Hart, memory: &RankMemory, number: u64) -> bool
-    ensures running { IsTrue result → hart.now.mode ≡ Running }
-    ensures ecall { IsTrue result → is_ecall_of (word_at memory.now hart.now.pc) ≡ true }
-    ensures number { IsTrue result → read hart.now 17 ≡ number }
-{
-    let Mode::Running = hart.mode() else {
-        return false;
-    };
-    hart.get(Reg::new(17)) == number && is_ecall(memory.text_word(hart.pc()))
-}
 
 /// The side of a request, and the partition of it that may be made ready.
 #[inline(always)]
@@ -62,7 +44,7 @@ fn awaited(state: &RankState, handle: u64, part: u64) -> Option<(Partitions, u8,
 {
     let side = receiving_side(&state.requests, handle)?;
     let phase = state.phases.receiving(side.link);
-    if part >= u64::from(phase.parts) || !phase.active || phase.boxes == 0 {
+    if part >= u64::from(phase.parts) || !phase.active {
         return None;
     }
     let part = part as u8;

@@ -15,9 +15,9 @@ ghost use Rattle.cl_state.specs.Written.{written};
 ghost use Rattle.cl_rank.specs.QuickReceives.{Fits, IsRightReceive, IsRoomyReceive, Receives, got_at};
 ghost use Rattle.cl_rank.specs.QuickReceives.{request_in, waits_at};
 
-use crate::quick_sends::return_ok;
+use crate::quick_sends::{is_at, return_ok};
 use cl_calls::{ANY, NO_RANK, Peer, RECV, Receiving, Site, position};
-use cl_state::{RankState, is_ecall, source, tag};
+use cl_state::{RankState, source, tag};
 use mp_types::{Reply, Request, Stamp};
 use rv_decode::Reg;
 use rv_hart::{Hart, Mode, Wait};
@@ -31,12 +31,7 @@ fn is_at_recv(hart: &Hart, memory: &RankMemory) -> bool
     ensures number { IsTrue result → read hart.now 17 ≡ 18 }
     ensures status { IsTrue result → read hart.now 15 ≡ 0 }
 {
-    let Mode::Running = hart.mode() else {
-        return false;
-    };
-    hart.get(Reg::new(17)) == RECV
-        && hart.get(Reg::new(15)) == 0
-        && is_ecall(memory.text_word(hart.pc()))
+    is_at(hart, memory, RECV) && hart.get(Reg::new(15)) == 0
 }
 
 /// The arguments of a receive.

@@ -2,7 +2,7 @@
 //!
 //! A rank that sends does this call again and again: so its row isn't looked up, and its reply is told at once.
 
-ghost use Rattle.std.specs.Prelude.{◌≡◌, ◌≢◌, ◌<◌, ◌≤◌, vec_len, IfSome, IsTrue, false, true};
+ghost use Rattle.std.specs.Prelude.{◌≡◌, ◌<◌, ◌≤◌, vec_len, IfSome, IsTrue, false, true};
 ghost use Rattle.rv_hart.specs.State.{read};
 ghost use Rattle.rv_hart.specs.declared.state.Mode.TheVariants.{Running};
 ghost use Rattle.rv_memory.specs.Access.{word_at};
@@ -23,17 +23,29 @@ use rv_decode::Reg;
 use rv_hart::{Hart, Mode};
 use rv_memory::RankMemory;
 
-/// Whether a running hart is at an ECALL that is a SEND.
+/// Whether a running hart is at an ECALL.
 #[inline(always)]
-fn is_at_send(hart: &Hart, memory: &RankMemory) -> bool
+pub(crate) fn is_at_call(hart: &Hart, memory: &RankMemory) -> bool
     ensures running { IsTrue result → hart.now.mode ≡ Running }
     ensures ecall { IsTrue result → is_ecall_of (word_at memory.now hart.now.pc) ≡ true }
-    ensures number { IsTrue result → read hart.now 17 ≡ 16 }
 {
     let Mode::Running = hart.mode() else {
         return false;
     };
-    hart.get(Reg::new(17)) == SEND && is_ecall(memory.text_word(hart.pc()))
+    is_ecall(memory.text_word(hart.pc()))
+}
+
+/// Whether a running hart is at the ECALL of the call of this number.
+#[inline(always)]
+pub(crate) fn is_at(hart: &Hart, memory: &RankMemory, number: u64) -> bool
+    ensures running { IsTrue result → hart.now.mode ≡ Running }
+    ensures ecall { IsTrue result → is_ecall_of (word_at memory.now hart.now.pc) ≡ true }
+    ensures number { IsTrue result → read hart.now 17 ≡ number }
+{
+    let Mode::Running = hart.mode() else {
+        return false;
+    };
+    hart.get(Reg::new(17)) == number && is_ecall(memory.text_word(hart.pc()))
 }
 
 /// The arguments of a send.
@@ -102,7 +114,7 @@ pub(crate) fn sent(state: &RankState, hart: u8) -> Option<Request>
     ensures { IfSome result (λ request. Sends state.now hart request) }
 {
     let at = &state.harts[hart as usize];
-    if !is_at_send(at, &state.memory) {
+    if !is_at(at, &state.memory, SEND) {
         return None;
     }
     let sending = sending_of(at);
