@@ -14,10 +14,12 @@ use Rattle.mp_match.specs.declared.posts.Line.{Line}
 use Rattle.mp_match.specs.Pairs.{accepts, admits, may_pair, is_free, partner_for, partner_set, partners_told, add}
 use Rattle.mp_match.specs.Waiting.{same_key, is_key, key_of, receive_key, is_open_at}
 use Rattle.mp_match.specs.Queues.{message_key, places, AreQueued}
+use Rattle.mp_match.specs.InnerLive.{post_at}
 use Rattle.mp_match.specs.InnerQueues.{pushed, popped}
 use Rattle.mp_match.proofs.Lines.{given}
 use Rattle.mp_match.proofs.OrderKept.{chosen, free_none}
 use Rattle.mp_match.proofs.Keys.{key_same, is_key_some}
+use Rattle.mp_match.proofs.Partners.{no_partner}
 
 -- the first of a queue is the first place that passes
 pub front_is : (t : Line → Bool) (i : ℕ) (ms : List Line) → slice_get (places t i ms) 0 ≡ position_from t i ms
@@ -145,6 +147,17 @@ module _ (key : Post → Option Selection) (f : Selection → List ℕ) (ms : Li
       go None e = h k ∙ sym (places_skip (is_open_at key k) ms line (ap (is_key k) e))
       go (Some q) e = at q (same_key k q) refl e
 
+  -- so `g`, the queues after it was put there, are right; `x` is the post itself, of a known kind
+  pub entered : {p x : Post} {place : ℕ} {partner : Option Post} {g : Selection → List ℕ} → p ≡ x → place ≡ length ms
+      → partner ≡ None → partner ≡ post_at ms (partner_for ms p)
+      → ((k : Selection) → g k ≡ pushed f (key x) place k)
+      → AreQueued key g (add ms p)
+  entered {p} {x} {place} is here none there after k =
+      after k ∙ (λ i. pushed f (key (sym is i)) (here i) k)
+      ∙ subst (λ o. AreQueued key (pushed f (key p) (length ms))
+      (partners_told ms o ++ record { post = p; partner = o } ∷ []))
+      (no_partner ms p (sym none ∙ there)) (queued_push p) k
+
   -- a new post with a partner stands in no queue
   queued_skip : (p : Post) (j : ℕ) → AreQueued key f (ms ++ record { post = p; partner = Some j } ∷ [])
   queued_skip p j k = h k ∙ sym (places_skip (is_open_at key k) ms (record { post = p; partner = Some j }) refl)
@@ -182,12 +195,6 @@ module _ (key : Post → Option Selection) (f : Selection → List ℕ) (ms : Li
 
 module _ (key : Post → Option Selection) (alike : AreAlike key) (f : Selection → List ℕ) (ms : List Line) (p : Post)
     (h : AreQueued key f ms) where
-  pub entered : None ≡ partner_for ms p → AreQueued key (pushed f (key p) (length ms)) (add ms p)
-  entered none =
-      subst (λ o. AreQueued key (pushed f (key p) (length ms))
-      (partners_told ms o ++ record { post = p; partner = o } ∷ []))
-      none (queued_push key f ms h p)
-
   pub left : (q : ℕ) (x : Line) → Some q ≡ partner_for ms p → slice_get ms q ≡ Some x
       → AreQueued key (popped f (key x.post)) (add ms p)
   left q x found here =

@@ -198,19 +198,6 @@ impl Queues {
         self.compared
     }
 
-    // One post more, with its partner where there is one.
-    #[inline(always)]
-    fn add(&mut self, new: Post, body: Option<Bytes>) -> Result<Option<u64>, AllocError>
-        requires { length self.old.lines < 2 ^ 64 - 1 }
-        ensures ok { IfOk result (λ partner.
-            (partner ≡ partner_for self.old.lines new) × (self.new ≡ board_with self.old new body)) }
-        ensures err { OnErr result (self.new ≡ self.old) }
-    {
-        let found = self.find(new);
-        self.add_to(found, new, body)?;
-        Ok(found.partner)
-    }
-
     // What a new post would find.
     fn find(&self, new: Post) -> Found
         ensures partner { result.partner ≡ partner_for self.now.lines new }
@@ -280,8 +267,10 @@ impl Queues {
         if self.held >= HELD_MAX {
             return Err(PostFault::Full);
         }
-        match self.add(Post::Send(sent), Some(bytes)) {
-            Ok(partner) => Ok(is_done(sent, partner)),
+        let new = Post::Send(sent);
+        let found = self.find(new);
+        match self.add_to(found, new, Some(bytes)) {
+            Ok(()) => Ok(is_done(sent, found.partner)),
             Err(_) => Err(PostFault::Memory),
         }
     }
@@ -292,8 +281,9 @@ impl Queues {
         ensures ok { IfOk result (λ _. self.new ≡ receive_posted self.old selection) }
         ensures err { OnErr result (self.new ≡ self.old) }
     {
-        self.add(Post::Receive(selection), None)?;
-        Ok(())
+        let new = Post::Receive(selection);
+        let found = self.find(new);
+        self.add_to(found, new, None)
     }
 
     // What the post would be given, if anything.

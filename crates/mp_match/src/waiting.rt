@@ -11,7 +11,6 @@ ghost use Rattle.mp_match.specs.Waiting.{compared_for, key_of, key_with, one_if}
 ghost use Rattle.mp_match.specs.Queues.{AreQueued, message_key};
 ghost use Rattle.mp_match.specs.InnerQueues.{popped};
 ghost use Rattle.mp_match.specs.Waiting.{receive_key};
-ghost use Rattle.mp_match.specs.InnerQueues.{pushed};
 
 use crate::history::History;
 use crate::post_queues::{PostQueues, least_of};
@@ -119,24 +118,6 @@ impl Waiting {
         }
     }
 
-    // A post without a partner waits from now on; a claim never does.
-    fn enter(&mut self, new: Post, place: u64) -> Result<(), AllocError>
-        ensures messages { OnOk result ((k : Selection) →
-            queue self.new.messages.map k ≡ pushed (queue self.old.messages.map) (message_key new) place k) }
-        ensures receives { OnOk result ((k : Selection) →
-            queue self.new.receives.map k ≡ pushed (queue self.old.receives.map) (receive_key new) place k) }
-        ensures err_messages { OnErr result
-            ((k : Selection) → queue self.new.messages.map k ≡ queue self.old.messages.map k) }
-        ensures err_receives { OnErr result
-            ((k : Selection) → queue self.new.receives.map k ≡ queue self.old.receives.map k) }
-    {
-        match new {
-            Post::Send(sent) => self.messages.push(key_of(sent), place),
-            Post::Receive(selection) => self.receives.push(selection, place),
-            Post::Claim(_) => Ok(()),
-        }
-    }
-
     // A post that was the first of its queue has a partner now.
     fn leave(&mut self, post: Post)
         ensures messages { (k : Selection) →
@@ -185,10 +166,12 @@ impl Waiting {
             (AreQueued receive_key (queue self.new.receives.map) _history.now.board.lines) }
     {
         match partner {
-            None => {
-                self.enter(new, place)?;
-                Ok(())
-            }
+            None => match new {
+                Post::Send(sent) => self.messages.push(key_of(sent), place),
+                Post::Receive(selection) => self.receives.push(selection, place),
+                // a claim never waits
+                Post::Claim(_) => Ok(()),
+            },
             Some(post) => {
                 self.pair(_history, new, post);
                 Ok(())

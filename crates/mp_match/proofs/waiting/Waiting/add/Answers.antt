@@ -1,26 +1,42 @@
-use Rattle.std.proofs.Common.{ap, sym, ◌∙◌}
-use Rattle.mp_match.specs.Queued.{queue}
+use Rattle.std.proofs.Common.{refl}
+use Rattle.std.proofs.lemmas.Result.{on_ok_weaker}
 use Rattle.mp_match.specs.Waiting.{receive_key}
 use Rattle.mp_match.specs.Queues.{message_key}
-use Rattle.mp_match.specs.InnerQueues.{pushed}
-use Rattle.mp_match.proofs.Partners.{no_partner}
-use Rattle.mp_match.proofs.Queueing.{entered, messages_alike, receives_alike}
+use Rattle.mp_match.proofs.Queueing.{entered}
 use Rattle.mp_match.proofs.waiting.Waiting.add.Goals as goal
 
-pub returns-in_ok-enter-in-None-clause-messages : goal.returns-in_ok-enter-in-None-clause-messages
-returns-in_ok-enter-in-None-clause-messages c = λ k.
-    let ms = c.args._history.now.board.lines in
-    let f = queue c.args.self.now.messages.map in
-    c.in_ok-enter-in-None.ensures.messages k
-    ∙ ap (λ n. pushed f (message_key c.args.new) n k) c.requires.place
-    ∙ entered message_key messages_alike f ms c.args.new c.requires.messages
-    (no_partner ms c.args.new (sym c.in-None.is ∙ c.requires.partner)) k
+pub returns-in-Send-clause-messages : goal.returns-in-Send-clause-messages
+returns-in-Send-clause-messages c =
+    on_ok_weaker c.push.result
+    (entered message_key _ _ c.requires.messages c.in-Send.is c.requires.place c.in-None.is c.requires.partner)
+    (rw c.key_of.ensures at c.push.ensures.ok)
 
-pub returns-in_ok-enter-in-None-clause-receives : goal.returns-in_ok-enter-in-None-clause-receives
-returns-in_ok-enter-in-None-clause-receives c = λ k.
-    let ms = c.args._history.now.board.lines in
-    let f = queue c.args.self.now.receives.map in
-    c.in_ok-enter-in-None.ensures.receives k
-    ∙ ap (λ n. pushed f (receive_key c.args.new) n k) c.requires.place
-    ∙ entered receive_key receives_alike f ms c.args.new c.requires.receives
-    (no_partner ms c.args.new (sym c.in-None.is ∙ c.requires.partner)) k
+pub returns-in-Send-clause-receives : goal.returns-in-Send-clause-receives
+returns-in-Send-clause-receives c =
+    on_ok_weaker c.push.result
+    (λ _. entered receive_key _ _ c.requires.receives c.in-Send.is c.requires.place c.in-None.is c.requires.partner
+    (λ _. refl))
+    c.push.ensures.ok
+
+pub returns-in-Receive-clause-messages : goal.returns-in-Receive-clause-messages
+returns-in-Receive-clause-messages c =
+    on_ok_weaker c.push-in-Receive.result
+    (λ _. entered message_key _ _ c.requires.messages c.in-Receive.is c.requires.place c.in-None.is c.requires.partner
+    (λ _. refl))
+    c.push-in-Receive.ensures.ok
+
+pub returns-in-Receive-clause-receives : goal.returns-in-Receive-clause-receives
+returns-in-Receive-clause-receives c =
+    on_ok_weaker c.push-in-Receive.result
+    (entered receive_key _ _ c.requires.receives c.in-Receive.is c.requires.place c.in-None.is c.requires.partner)
+    c.push-in-Receive.ensures.ok
+
+pub returns-in-Claim-clause-messages : goal.returns-in-Claim-clause-messages
+returns-in-Claim-clause-messages c =
+    entered message_key _ _ c.requires.messages c.in-Claim.is c.requires.place c.in-None.is c.requires.partner
+    (λ _. refl)
+
+pub returns-in-Claim-clause-receives : goal.returns-in-Claim-clause-receives
+returns-in-Claim-clause-receives c =
+    entered receive_key _ _ c.requires.receives c.in-Claim.is c.requires.place c.in-None.is c.requires.partner
+    (λ _. refl)
