@@ -81,34 +81,3 @@ module _ {D : Type 0} (gives : DeskRule D) (hub : D → HubHistory)
     budget_stays = stops.budget_stays;
     stops = stops.stops;
   })
-
--- what each call keeps of a desk is kept
-module _ {D N : Type 0} (gives : DeskRule D) (name : D → N)
-    (of : (before : D) (rank hart clock : ℕ) (request : Request) (told : Result (Reply × ℕ) HubFault) (after : D)
-    → gives before rank hart clock request told after → name after ≡ name before) where
-  told_name : (rank hart stamp : ℕ) (before after : D) (act : Act) → TellsAct gives rank hart stamp before after act
-      → name after ≡ name before
-  told_name rank hart stamp before after (Act.Hub clock request reply) h =
-      of before rank hart clock request (Ok (reply, stamp)) after h
-  told_name rank hart stamp before after Act.Plain h = ap name h
-  told_name rank hart stamp before after Act.Local h = ap name h
-  told_name rank hart stamp before after (Act.Ready link part bytes) h = ap name h
-  told_name rank hart stamp before after (Act.Take link part gate bytes) h = ap name h
-  told_name rank hart stamp before after (Act.Miss link part) h = ap name h
-  told_name rank hart stamp before after (Act.Freed link part gate) h = ap name h
-  told_name rank hart stamp before after Act.Held h = ap name h
-  told_name rank hart stamp before after Act.Idle h = ap name h
-
-  held_name : (hart : ℕ) (rank : Rank) (room turns budget : ℕ) (before after : D) (s : Stop)
-      → StopHolds gives hart rank room turns budget before after s → name after ≡ name before
-  held_name hart rank room turns budget before after s (inl own) = ap name own.1
-  held_name hart rank room turns budget before after s (inr refused) =
-      let asks = refused.1.3 in
-      of before rank.site.number hart rank.clock asks.0 (Err refused.1.0) after asks.2
-
-  pub keeps_name : (plan : Plan) (old new : Station) (before after : D) → GoesOn gives plan old before new after
-      → name after ≡ name before
-  keeps_name plan old new before after (inl turn) =
-      told_name turn.deed.rank turn.deed.hart turn.deed.stamp before after turn.deed.act turn.tells
-  keeps_name plan old new before after (inr stops) =
-      held_name stops.hart old.rank stops.room _ old.budget before after stops.stop stops.holds

@@ -35,19 +35,6 @@ pub(crate) struct Driver<'a> {
     pub channels: Vec<Channel>,
 }
 
-/// A turn of a seat that is running, over the hub itself.
-#[inline(always)]
-fn turn(seat: &mut Seat, hub: &mut Hub, channels: &[Channel])
-    requires running { seat.old.stop ≡ None }
-    requires channels { AreChannelsOf (station seat.old).rank.site.version channels.now (station seat.old).sides }
-    ensures goes { GoesOn Answered seat.old.plan.now (station seat.old) hub.old (station seat.new) hub.new }
-    ensures plan { seat.new.plan.now ≡ seat.old.plan.now }
-    ensures channels { AreChannelsOf (station seat.new).rank.site.version channels.now (station seat.new).sides }
-{
-    let mut desk = PlainDesk { hub };
-    seat.turn(&(), &mut desk, channels);
-}
-
 /// The two keys of a box, of its sender's seat and its receiver's, agree. Nothing changes.
 fn agree_of(from: &mut Seat, to: &mut Seat, channels: &[Channel], place: BoxId)
     requires sender { AreChannelsOf (station from.old).rank.site.version channels.now (station from.old).sides }
@@ -168,7 +155,8 @@ impl<'a> Driver<'a> {
             return false;
         }
         let channels = self.channels.as_slice();
-        turn(&mut self.seats[rank as usize], &mut self.hub, channels);
+        let mut desk = PlainDesk { hub: &mut self.hub };
+        self.seats[rank as usize].turn(&(), &mut desk, channels);
         self.agree(rank);
         true
     }

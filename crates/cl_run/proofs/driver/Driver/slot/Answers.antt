@@ -5,8 +5,10 @@ use Rattle.cl_run.proofs.Seats.{no_stop, some_stop, station_at}
 use Rattle.cl_machine.proofs.Lists.{get-set_same}
 use Rattle.cl_rank.specs.RankSides.{AreChannelsOf}
 use Rattle.cl_rank.specs.Turning.{Answered}
+use Rattle.cl_rank.specs.declared.desks.PlainDesk.{PlainDesk}
 use Rattle.cl_record.specs.Seats.{GoesOn, station}
 use Rattle.cl_run.specs.Driver.{Agree, stations}
+use Rattle.cl_run.proofs.Desks.{goes_plainly}
 use Rattle.cl_run.proofs.Joined.{links_stay}
 use Rattle.cl_run.proofs.Slots.{seats_joined}
 use Rattle.cl_run.proofs.driver.Driver.slot.Goals as goal
@@ -33,9 +35,11 @@ agree-requires-clause-joined c =
     let driver = c.args.self.now in
     let seats = driver.seats in
     let seat = c.index_mut.result.now in
-    let later = c.turn.new.seat in
+    let later = c.turn.new.self in
+    let goes = goes_plainly _ (λ (d : PlainDesk). d.hub.now) (λ before rank hart clock request told after h. h.1)
+    seat.plan.now (station seat) (station later) _ c.turn.new.desk c.turn.ensures.goes in
     let at = slice_get_read seats.items _ c.args.rank seat seats.ok.0 c.requires.there c.index_mut.ensures.value in
-    seats_joined c.args.rank driver _ seat later at c.turn.ensures.goes
+    seats_joined c.args.rank driver _ seat later at goes
     (subst (λ cs. AreChannelsOf (station later).rank.site.version cs (station later).sides)
     c.as_slice-channels.ensures.value c.turn.ensures.channels)
     refl refl c.requires.joined
@@ -45,8 +49,10 @@ returns c =
     let driver = c.args.self.now in
     let seats = driver.seats in
     let seat = c.index_mut.result.now in
-    let later = c.turn.new.seat in
-    let goes = c.turn.ensures.goes in
+    let later = c.turn.new.self in
+    let hub = c.turn.new.desk.hub.now in
+    let goes = goes_plainly _ (λ (d : PlainDesk). d.hub.now) (λ before rank hart clock request told after h. h.1)
+    seat.plan.now (station seat) (station later) _ c.turn.new.desk c.turn.ensures.goes in
     let at = slice_get_read seats.items _ c.args.rank seat seats.ok.0 c.requires.there c.index_mut.ensures.value in
     let first =
     slice_get_read seats.items _ c.args.rank c.index.result.now seats.ok.0 c.requires.there c.index.ensures in
@@ -56,7 +62,7 @@ returns c =
     ∙ no_stop c.index.result.now.stop (sym c.is_some.ensures ∙ c.if-is_some.false) in
     let later_at = get-set_same seats.items c.args.rank seat later at in
     let agree = c.agree.ensures.agree (station later) (station_at _ c.args.rank later later_at) in
-    let links = links_stay seat.plan.now (station seat) (station later) driver.hub c.turn.new.hub goes in
+    let links = links_stay seat.plan.now (station seat) (station later) driver.hub hub goes in
     record {
       seat = seat;
       later = later;
@@ -70,6 +76,6 @@ returns c =
       seats_are = c.agree.ensures.seats;
       channels_stay = c.agree.ensures.channels;
       agree = subst (λ ls. Agree ls (stations c.agree.new.self) (station later).asked) links
-          (subst (λ ss. Agree c.turn.new.hub.links ss (station later).asked)
+          (subst (λ ss. Agree hub.links ss (station later).asked)
           (ap (map station) (sym c.agree.ensures.seats)) agree);
     }
