@@ -1,7 +1,7 @@
-// The hub of the twins matching.rs, pingpong.rs and threads.rs, which include this text behind queues.rs: the queues,
-// and a list of all calls, each with its rank, clocks, request and reply. What a message carries is copied as in rvmc:
-// the request keeps its own bytes, the queues have some until the message is collected, and the reply is entered and
-// told. Some of the twins ask less than others, and read less.
+// The hub of the twins matching.rs, pingpong.rs, threads.rs and unexpected.rs, which include this text behind queues.rs:
+// the queues, and a list of all calls, each with its rank, clocks, request and reply. What a message carries is copied as
+// in rvmc: the request keeps its own bytes, the queues have some until the message is collected, and the reply is entered
+// and told. Some of the twins ask less than others, and read less.
 
 #[allow(dead_code)]
 enum Request {

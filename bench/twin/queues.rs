@@ -1,6 +1,7 @@
-// The queues of the twins matching.rs, pingpong.rs and threads.rs, which include this text: posts with their partners
-// and bodies in lists, and the posts without a partner in a hash map of deques, a deque for each communicator, source
-// and tag of a rank, wildcards among them. A deque that is empty isn't kept. Nothing here is proved.
+// The queues of the twins matching.rs, pingpong.rs, threads.rs and unexpected.rs, which include this text: posts with
+// their partners and bodies in lists, and the posts without a partner in a hash map of deques, a deque for each
+// communicator, source and tag of a rank, wildcards among them. A deque that is empty isn't kept. Nothing here is
+// proved.
 
 use std::collections::hash_map;
 use std::collections::{HashMap, VecDeque};

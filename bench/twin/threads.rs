@@ -15,6 +15,7 @@ use std::{env, io, process, thread};
 include!("hart.rs");
 include!("queues.rs");
 include!("hub.rs");
+include!("trace.rs");
 
 // ---- how far a rank may be ahead
 
@@ -55,47 +56,6 @@ impl Pace {
 }
 
 // ---- a rank
-
-#[derive(Clone, Copy, PartialEq)]
-enum Kind {
-    Plain,
-    Local,
-    Hub,
-}
-
-/// Turns of one kind whose stamps follow one another.
-struct Event {
-    from: u64,
-    count: u64,
-    hart: u8,
-    kind: Kind,
-}
-
-#[derive(Default)]
-struct Trace {
-    events: Vec<Event>,
-    turns: u64,
-}
-
-impl Trace {
-    fn push(&mut self, stamp: u64, kind: Kind) {
-        self.turns += 1;
-        if let Some(last) = self.events.last_mut()
-            && last.kind == kind
-            && last.hart == 0
-            && last.from + last.count == stamp
-        {
-            last.count += 1;
-            return;
-        }
-        self.events.push(Event {
-            from: stamp,
-            count: 1,
-            hart: 0,
-            kind,
-        });
-    }
-}
 
 enum State {
     Running,
