@@ -155,7 +155,9 @@ fn argument(hart: &Hart, number: u8) -> u64
 }
 
 impl Sending {
-    fn of(hart: &Hart) -> Sending
+    /// The arguments of a send, as a hart's registers have them.
+    #[inline(always)]
+    pub fn of(hart: &Hart) -> Sending
         ensures { result ≡ sending_by (argument_of hart.now) }
     {
         Sending {
@@ -169,7 +171,9 @@ impl Sending {
 }
 
 impl Receiving {
-    fn of(hart: &Hart) -> Receiving
+    /// The arguments of a receive, as a hart's registers have them.
+    #[inline(always)]
+    pub fn of(hart: &Hart) -> Receiving
         ensures { result ≡ receiving_by (argument_of hart.now) }
     {
         Receiving {

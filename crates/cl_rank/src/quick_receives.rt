@@ -7,7 +7,6 @@ ghost use Rattle.rv_memory.specs.Access.{word_at};
 ghost use Rattle.rv_memory.specs.MorePages.{missing_pages};
 ghost use Rattle.rv_memory.specs.Present.{IsWritable};
 ghost use Rattle.mp_types.specs.declared.requests.Request.TheVariants as request;
-ghost use Rattle.cl_calls.specs.Calls.{argument, receiving_by};
 ghost use Rattle.cl_state.specs.Asked.{is_ecall as is_ecall_of};
 ghost use Rattle.cl_state.specs.Room.{rank_of};
 ghost use Rattle.cl_state.specs.Transfers.{source_of, tag_of};
@@ -32,20 +31,6 @@ fn is_at_recv(hart: &Hart, memory: &RankMemory) -> bool
     ensures status { IsTrue result → read hart.now 15 ≡ 0 }
 {
     is_at(hart, memory, RECV) && hart.get(Reg::new(15)) == 0
-}
-
-/// The arguments of a receive.
-#[inline(always)]
-fn receiving_of(hart: &Hart) -> Receiving
-    ensures { result ≡ receiving_by (argument hart.now) }
-{
-    Receiving {
-        buffer: hart.get(Reg::new(10)),
-        capacity: hart.get(Reg::new(11)),
-        source: hart.get(Reg::new(12)),
-        tag: hart.get(Reg::new(13)),
-        comm: hart.get(Reg::new(14)),
-    }
 }
 
 /// Whether a receive is right and doesn't name the null process.
@@ -104,7 +89,7 @@ pub(crate) fn received(state: &RankState, hart: u8) -> Option<Receiving>
     if !is_at_recv(at, &state.memory) {
         return None;
     }
-    let receiving = receiving_of(at);
+    let receiving = Receiving::of(at);
     if !is_roomy(&state.site, &state.memory, &receiving) {
         return None;
     }

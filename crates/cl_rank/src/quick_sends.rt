@@ -9,7 +9,6 @@ ghost use Rattle.rv_memory.specs.Access.{word_at};
 ghost use Rattle.rv_memory.specs.Memory.{bytes_at};
 ghost use Rattle.mp_types.specs.declared.codes.Code.TheVariants as code;
 ghost use Rattle.mp_types.specs.declared.requests.Request.TheVariants as request;
-ghost use Rattle.cl_calls.specs.Calls.{argument, sending_by};
 ghost use Rattle.cl_calls.specs.Site.{member};
 ghost use Rattle.cl_state.specs.Asked.{is_ecall as is_ecall_of};
 ghost use Rattle.cl_state.specs.Room.{rank_of};
@@ -46,20 +45,6 @@ pub(crate) fn is_at(hart: &Hart, memory: &RankMemory, number: u64) -> bool
         return false;
     };
     hart.get(Reg::new(17)) == number && is_ecall(memory.text_word(hart.pc()))
-}
-
-/// The arguments of a send.
-#[inline(always)]
-fn sending_of(hart: &Hart) -> Sending
-    ensures { result ≡ sending_by (argument hart.now) }
-{
-    Sending {
-        buffer: hart.get(Reg::new(10)),
-        count: hart.get(Reg::new(11)),
-        dest: hart.get(Reg::new(12)),
-        tag: hart.get(Reg::new(13)),
-        comm: hart.get(Reg::new(14)),
-    }
 }
 
 /// Whether a send is right, goes to a member, and has so few bytes that they take no memory.
@@ -117,7 +102,7 @@ pub(crate) fn sent(state: &RankState, hart: u8) -> Option<Request>
     if !is_at(at, &state.memory, SEND) {
         return None;
     }
-    let sending = sending_of(at);
+    let sending = Sending::of(at);
     if !is_short(&state.site, &state.memory, &sending) {
         return None;
     }

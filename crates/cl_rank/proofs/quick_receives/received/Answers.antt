@@ -4,7 +4,7 @@ use Rattle.cl_rank.proofs.quick_receives.received.Goals as goal
 
 pub returns : goal.returns
 returns c =
-    receives_so c.args.state.now c.args.hart c.index-at.result.now c.receiving_of-receiving.result _
+    receives_so c.args.state.now c.args.hart c.index-at.result.now c.of-receiving.result _
     c.index-at.ensures c.requires (c.if-not-is_at_recv.ensures.running refl) (c.if-not-is_at_recv.ensures.ecall refl)
-    (c.if-not-is_at_recv.ensures.number refl) (c.if-not-is_at_recv.ensures.status refl) c.receiving_of-receiving.ensures
+    (c.if-not-is_at_recv.ensures.number refl) (c.if-not-is_at_recv.ensures.status refl) c.of-receiving.ensures
     (c.if-not-is_roomy.ensures refl) refl
