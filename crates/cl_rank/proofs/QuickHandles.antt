@@ -33,7 +33,7 @@ use Rattle.cl_state.specs.declared.row.Row.{Row}
 use Rattle.cl_state.specs.declared.row.Row.TheVariants.{OnReply}
 use Rattle.cl_state.specs.declared.row.Wanted.TheVariants as wanted
 use Rattle.cl_state.specs.declared.state.RankState.{RankState}
-use Rattle.cl_state.specs.Asked.{asked, asked_completing, asked_in, doing, is_ecall}
+use Rattle.cl_state.specs.Asked.{asked, asked_completing, asked_in, is_ecall}
 use Rattle.cl_state.specs.Asked.{no_hart, part_of}
 use Rattle.cl_state.specs.Partitions.{awaited}
 use Rattle.cl_state.specs.Pending.{pending_of}

@@ -28,7 +28,7 @@ use Rattle.cl_state.specs.declared.pending.Manner.TheVariants.{Immediate}
 use Rattle.cl_state.specs.declared.row.Row.TheVariants.{OnBox}
 use Rattle.cl_state.specs.declared.row.Visit.TheVariants.{Readies, Sees}
 use Rattle.cl_state.specs.declared.state.RankState.{RankState}
-use Rattle.cl_state.specs.Asked.{asked, asked_in, doing, is_ecall, no_hart, part_of}
+use Rattle.cl_state.specs.Asked.{asked, asked_in, is_ecall, no_hart, part_of}
 use Rattle.cl_state.specs.Partitions.{asked_arrived, asked_awaited, asked_ready, awaited_in, awaited_of_part, boxed}
 use Rattle.cl_state.specs.Right.{IsChecked}
 use Rattle.cl_state.specs.Room.{rank_of}

@@ -1,5 +1,5 @@
 -- What goes by one desk's rule goes by another's, where each call does.
-use Rattle.std.specs.Prelude.{ℕ, ◌≡◌, Result, Ok, Err}
+use Rattle.std.specs.Prelude.{ℕ, Result, Ok, Err}
 use Rattle.std.proofs.Common.{ap, inl, inr}
 use Rattle.mp_types.specs.declared.requests.Request.{Request}
 use Rattle.mp_types.specs.declared.replies.Reply.{Reply}

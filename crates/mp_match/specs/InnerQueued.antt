@@ -1,10 +1,8 @@
 -- The keys of queues, and what is found among them.
 use Rattle.std.specs.Prelude.{ℕ, ◌+◌, ◌==◌, ◌&&◌, Bool, false, cond, min, List, [], ◌∷◌, Option, Some, None, slice_get}
-use Rattle.std.specs.BTreeMap as tree
 use Rattle.std.specs.declared.alloc.Global.{Global}
 use Rattle.std.specs.declared.collections.VecDeque.{VecDeque}
 use Rattle.mp_match.specs.declared.posts.Selection.{Selection}
-use Rattle.mp_match.specs.contracts.posts.SelectionOrd.TheImpl as selection_ord
 use Rattle.mp_match.specs.Pairs.{admits}
 
 abbrev pub Entry : Type 0
