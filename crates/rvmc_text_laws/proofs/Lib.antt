@@ -1,4 +1,5 @@
 pub mod Counts
+pub mod Counted
 pub mod Boxes
 pub mod Waits
 pub mod Lines

@@ -1,7 +1,9 @@
 -- A list of ends is one to the letter.
-use Rattle.std.specs.Prelude.{ℕ, zero, suc, ◌≡◌, ◌≤◌, Bool, List, [], ◌∷◌, length, map, slice_get, Some}
+use Rattle.std.specs.Prelude.{ℕ, zero, suc, ◌<◌, ◌≡◌, ◌≤◌, Bool, List, [], ◌∷◌, length, map, slice_get, Some}
 use Rattle.std.proofs.Common.{ap, arith, inl, inr, refl, sym, subst, ◌∙◌}
 use Rattle.std.proofs.lemmas.List.{length-map}
+use Rattle.std.proofs.lemmas.Option.{slice_get_within}
+use Rattle.cl_explore.proofs.Lists.{at_inside}
 use Rattle.rv_image_types.specs.Image.{IsImage}
 use Rattle.rv_image_types.specs.declared.images.ImageParts.{ImageParts}
 use Rattle.cl_machine.specs.Cluster.{Cluster}
@@ -11,12 +13,13 @@ use Rattle.cl_order_laws.specs.Closed.{Node}
 use Rattle.cl_replay.specs.declared.states.ClusterState.{ClusterState}
 use Rattle.rvmc_explore.specs.Ends.{IsEndText}
 use Rattle.rvmc_explore.specs.OneList.{TellsEnd}
-use Rattle.rvmc_explore.specs.Outcomes.{AreApart, HasBody, IsEndBody, IsEndOutcome, IsListOf}
+use Rattle.rvmc_explore.specs.Outcomes.{AreApart, AreCounted, HasBody, IsEndBody, IsEndOutcome, IsListOf, ends_with}
 use Rattle.rvmc_explore.specs.declared.outcomes.Outcome.{Outcome}
 use Rattle.rvmc_explore.proofs.EndTexts.{found_way, stands_kept}
 use Rattle.rvmc_explore.proofs.OneList.{one_list_law}
 use Rattle.rvmc_text_laws.specs.Laws.{IsReachedState}
-use Rattle.rvmc_text_laws.specs.OneText.{AreEndsAlone, IsEndAt, OneTextLaw}
+use Rattle.rvmc_text_laws.specs.OneText.{AreEndsAlone, HasEndBody, IsEndAt, OneTextLaw}
+use Rattle.rvmc_text_laws.proofs.Counted.{one_has, some_have}
 use Rattle.rvmc_text_laws.proofs.Counts.{AreDistinct, Has, no_longer}
 use Rattle.rvmc_text_laws.proofs.EndTexts.{end_text_law}
 
@@ -141,6 +144,37 @@ module _ (image : ImageParts) (order : List ℕ) (buffered : Bool) (states turns
       let its = length-map other (λ (o : Outcome). o.body.items) in
       omega (arith, few, mine, its)
 
+-- ---- the ends of two lists
+
+module _ (image : ImageParts) (order : List ℕ) (found other : Findings) (one : Explored image order found)
+    (two : Explored image order other) (whole : other.left ≡ 0) (told its : List Outcome) (right : IsImage image)
+    (counted : AreCounted order image found told) (all : AreCounted order image other its) where
+  -- the text of an end that one search found is that of one that the other found
+  found_there : (k : ℕ) (body : List ℕ) → slice_get counted.bodies k ≡ Some body
+      → (j : ℕ) × (slice_get all.bodies j ≡ Some body)
+  found_there k body at =
+      let inside = slice_get_within counted.bodies k body at in
+      let number = at_inside found.ends k (let e = counted.many in omega (arith, inside, e)) in
+      let end = one.sound k number.0 number.1 in
+      let way = found_way image order (first_node image) found one number.0 end.0 end.1 in
+      let v = two.all whole way.0 end.0.cluster (way.1).run (way.1).follow end.2 in
+      let low = slice_get_within other.ends v.0 v.1 v.3 in
+      let text = at_inside all.bodies v.0 (let e = all.many in omega (arith, low, e)) in
+      let same = same_text order image end.0.cluster v.2.cluster body text.0 right v.5
+      (told_at image order found one number.0 end.0 body end.1 (counted.of k number.0 body number.1 at))
+      (told_at image order other two v.1 v.2 text.0 v.4 (all.of v.0 v.1 text.0 v.3 text.1)) in
+      (v.0, text.1 ∙ ap Some (sym same))
+
+  ends_there : (body : List ℕ) → HasEndBody told body → HasEndBody its body
+  ends_there body has =
+      let some = let e = counted.each has.0 has.1 has.2 in let low = has.3 in
+      subst (λ n. 0 < n) (e ∙ ap (ends_with counted.bodies) has.4) low in
+      let mine = one_has counted.bodies body some in
+      let there = found_there mine.0 body mine.1 in
+      let listed = all.there there.0 body there.1 in
+      let number = all.each listed.0 listed.1 listed.2 ∙ ap (ends_with all.bodies) listed.3 in
+      (listed.0, listed.1, listed.2, subst (λ n. 0 < n) (sym number) (some_have all.bodies body there.0 there.1), listed.3)
+
 pub one_text_law : OneTextLaw
 one_text_law = record {
   exactly = λ image order buffered states turns told listed right end reached tells state text stands is.
@@ -153,6 +187,14 @@ one_text_law = record {
       (at_number image order told k one first) (at_number image order told j other second));
   texts = λ image order buffered copied states turns more longer told other one two whole right k outcome at is.
       text_there image order copied more longer other two right whole outcome is;
+  same_ends = λ image order buffered copied states turns more longer told other one two whole complete right body.
+      let first = (one.searched).explored in
+      let second = (two.searched).explored in (
+        ends_there image order one.found two.found first second complete told other right ((one.are).counted)
+            ((two.are).counted) body,
+        ends_there image order two.found one.found second first whole other told right ((two.are).counted)
+            ((one.are).counted) body,
+      );
   same = λ image order buffered copied states turns more longer told other one two whole complete right ends its.
       let here = texts_there image order buffered states turns told one right whole other its in
       let there = texts_there image order copied more longer other two right complete told ends in

@@ -1,5 +1,5 @@
 -- That a list of ends is one to the letter.
-use Rattle.std.specs.Prelude.{ℕ, ◌≡◌, ◌↔◌, Bool, List, [], length, slice_get, Some}
+use Rattle.std.specs.Prelude.{ℕ, ◌<◌, ◌≡◌, ◌↔◌, Bool, List, [], length, slice_get, Some}
 use Rattle.rv_image_types.specs.Image.{IsImage}
 use Rattle.rv_image_types.specs.declared.images.ImageParts.{ImageParts}
 use Rattle.cl_deadlock_laws.specs.Stuck.{IsReachable}
@@ -32,6 +32,11 @@ abbrev pub AreEndsAlone : List ℕ → ImageParts → List Outcome → Type 0
 AreEndsAlone order image told =
     (k : ℕ) (outcome : Outcome) → slice_get told k ≡ Some outcome → IsEndOutcome order image outcome
 
+-- the list has this text, and it is that of some of the ends that were found
+abbrev pub HasEndBody : List Outcome → List ℕ → Type 0
+HasEndBody told body =
+    (k : ℕ) × (outcome : Outcome) × (slice_get told k ≡ Some outcome) × (0 < outcome.ends) × (outcome.body.items ≡ body)
+
 -- two lists have the same texts, and equally many
 abbrev pub HaveSameTexts : List Outcome → List Outcome → Type 0
 HaveSameTexts told other = ((body : List ℕ) → HasBody told body ↔ HasBody other body) × (length told ≡ length other)
@@ -57,6 +62,12 @@ pub record OneTextLaw : Type 0 where
       → (two.found).left ≡ 0 → IsImage image
       → (k : ℕ) (outcome : Outcome) → slice_get told k ≡ Some outcome → IsEndOutcome order image outcome
       → HasBody other outcome.body.items
+  -- if two searches left no state, both lists have the same texts of ends, whatever else they tell
+  pub same_ends : (image : ImageParts) (order : List ℕ) (buffered copied : Bool) (states turns more longer : ℕ)
+      (told other : List Outcome)
+      → (one : IsListOf image order buffered states turns told) → (two : IsListOf image order copied more longer other)
+      → (one.found).left ≡ 0 → (two.found).left ≡ 0 → IsImage image
+      → (body : List ℕ) → HasEndBody told body ↔ HasEndBody other body
   -- if two searches left no state, and their lists tell of ends alone, both lists have the same texts, and equally many. So
   -- they differ in the order of their outcomes, if at all
   pub same : (image : ImageParts) (order : List ℕ) (buffered copied : Bool) (states turns more longer : ℕ)

@@ -14,7 +14,7 @@ pub fn end_text_law()
 {}
 
 /// A list has the text of each of its ends in full, and no two of them are alike. If a search left no state, its list has
-/// the text of each end that any search finds. So two such lists that name only ends have the same texts.
+/// the text of each end that any search finds. So two such lists have the same texts of ends, whatever else they name.
 pub fn one_text_law()
     ensures { OneTextLaw }
 {}
