@@ -1,5 +1,6 @@
 pub mod Counts
 pub mod Counted
+pub mod Sets
 pub mod Boxes
 pub mod Waits
 pub mod Lines

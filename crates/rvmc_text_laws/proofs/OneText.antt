@@ -22,6 +22,7 @@ use Rattle.rvmc_text_laws.specs.OneText.{AreEndsAlone, HasEndBody, IsEndAt, OneT
 use Rattle.rvmc_text_laws.proofs.Counted.{one_has, some_have}
 use Rattle.rvmc_text_laws.proofs.Counts.{AreDistinct, Has, no_longer}
 use Rattle.rvmc_text_laws.proofs.EndTexts.{end_text_law}
+use Rattle.rvmc_text_laws.proofs.Sets.{same_texts}
 
 -- the text of an end with this cluster
 record ToldAt (order : List ℕ) (image : ImageParts) (cluster : Cluster) (body : List ℕ) : Type 0 where
@@ -195,6 +196,16 @@ one_text_law = record {
         ends_there image order two.found one.found second first whole other told right ((two.are).counted)
             ((one.are).counted) body,
       );
+  one_set = λ image order buffered copied states turns more longer texts other right one two.
+      let first = ((one.listed).searched).explored in
+      let second = ((two.listed).searched).explored in
+      let mine = ((one.listed).are).counted in
+      let its = ((two.listed).are).counted in
+      one.are
+      ∙ same_texts one.told two.told
+      (ends_there image order (one.listed).found (two.listed).found first second two.whole one.told two.told right mine its)
+      (ends_there image order (two.listed).found (one.listed).found second first one.whole two.told one.told right its mine)
+      ∙ sym two.are;
   same = λ image order buffered copied states turns more longer told other one two whole complete right ends its.
       let here = texts_there image order buffered states turns told one right whole other its in
       let there = texts_there image order copied more longer other two right complete told ends in

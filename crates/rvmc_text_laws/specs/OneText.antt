@@ -1,5 +1,9 @@
 -- That a list of ends is one to the letter.
-use Rattle.std.specs.Prelude.{ℕ, ◌<◌, ◌≡◌, ◌↔◌, Bool, List, [], length, slice_get, Some}
+use Rattle.std.specs.Prelude.{ℕ, ◌<◌, ◌≡◌, ◌↔◌, Bool, List, [], length, map, nat_lt, slice_get, Some}
+use Rattle.std.specs.Cmp.Lexicographic.{slice_cmp}
+use Rattle.std.specs.FinSet.{FinSet, from_list}
+use Rattle.std.specs.List.{filter}
+use Rattle.std.specs.Ordering.{nat_cmp}
 use Rattle.rv_image_types.specs.Image.{IsImage}
 use Rattle.rv_image_types.specs.declared.images.ImageParts.{ImageParts}
 use Rattle.cl_deadlock_laws.specs.Stuck.{IsReachable}
@@ -37,6 +41,22 @@ abbrev pub HasEndBody : List Outcome → List ℕ → Type 0
 HasEndBody told body =
     (k : ℕ) × (outcome : Outcome) × (slice_get told k ≡ Some outcome) × (0 < outcome.ends) × (outcome.body.items ≡ body)
 
+-- a set of texts
+abbrev pub Texts : Type 0
+Texts = FinSet (slice_cmp nat_cmp)
+
+-- the texts of ends in a list
+abbrev pub end_texts : List Outcome → Texts
+end_texts told =
+    from_list (map (λ (outcome : Outcome). outcome.body.items) (filter (λ (outcome : Outcome). nat_lt 0 outcome.ends) told))
+
+-- these are the texts of ends that a search within these bounds lists, if it left no state
+pub record ListsEnds (image : ImageParts) (order : List ℕ) (buffered : Bool) (states turns : ℕ) (texts : Texts) : Type 0 where
+  pub told : List Outcome
+  pub listed : IsListOf image order buffered states turns told
+  pub whole : (listed.found).left ≡ 0
+  pub are : texts ≡ end_texts told
+
 -- two lists have the same texts, and equally many
 abbrev pub HaveSameTexts : List Outcome → List Outcome → Type 0
 HaveSameTexts told other = ((body : List ℕ) → HasBody told body ↔ HasBody other body) × (length told ≡ length other)
@@ -68,6 +88,11 @@ pub record OneTextLaw : Type 0 where
       → (one : IsListOf image order buffered states turns told) → (two : IsListOf image order copied more longer other)
       → (one.found).left ≡ 0 → (two.found).left ≡ 0 → IsImage image
       → (body : List ℕ) → HasEndBody told body ↔ HasEndBody other body
+  -- so what such searches list has one value at most, as a set of texts, whatever their bounds
+  pub one_set : (image : ImageParts) (order : List ℕ) (buffered copied : Bool) (states turns more longer : ℕ)
+      (texts other : Texts) → IsImage image → ListsEnds image order buffered states turns texts
+      → ListsEnds image order copied more longer other
+      → texts ≡ other
   -- if two searches left no state, and their lists tell of ends alone, both lists have the same texts, and equally many. So
   -- they differ in the order of their outcomes, if at all
   pub same : (image : ImageParts) (order : List ℕ) (buffered copied : Bool) (states turns more longer : ℕ)
