@@ -61,8 +61,13 @@ void *rvmc_checked_memchr(const void *at, int byte, size_t size)
     return found;
 }
 
+/* strlen itself traps at a null pointer, which the compiler isn't to know here. */
 size_t rvmc_checked_strlen(const char *text)
 {
+    const char *volatile at = text;
+
+    if (!text)
+        return strlen(at);
     READS_TEXT("strlen", text);
     return length_of(text);
 }

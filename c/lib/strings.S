@@ -2,37 +2,55 @@
 # bytes at a time where both sides can, and otherwise put 8 bytes together from two loads, since a load at another multiple
 # traps. They leave ra, sp and s0 alone, so that a debugger finds the caller. A program may have its own, so they are weak.
 # No load leaves the 8 bytes, at a multiple of 8, that hold a byte which is asked for.
+        .cfi_sections .debug_frame
+
         .macro begins name
         .section .text.\name, "ax"
         .weak \name
         .type \name, @function
 \name:
+        .cfi_startproc
         .endm
 
         .macro ends name
+        .cfi_endproc
         .size \name, . - \name
         .endm
 
-# A null pointer, and bytes to be read or written by it. The trap has the caller's ra, sp and s0.
-        .section .text.rvmc_null_memory, "ax"
-        .globl rvmc_null_memory
-        .type rvmc_null_memory, @function
-rvmc_null_memory:
+# A null pointer, and bytes to be read or written by it: a line, and a trap. The frame leads to the caller.
+        .macro null_pointer
+        .cfi_remember_state
         addi sp, sp, -16
+        .cfi_def_cfa_offset 16
         sd ra, 8(sp)
-        call rvmc_null_pointer
+        sd s0, 0(sp)
+        .cfi_offset ra, -8
+        .cfi_offset s0, -16
+        addi s0, sp, 16
+        call rvmc_null_bytes
         ld ra, 8(sp)
-        addi sp, sp, 16
         ebreak
-        ends rvmc_null_memory
+        .cfi_restore_state
+        .endm
+
+        .section .text.rvmc_null_bytes, "ax"
+        .type rvmc_null_bytes, @function
+rvmc_null_bytes:
+        .cfi_startproc
+        la a0, .Lnull
+        la a1, .Lnull_end
+        tail rvmc_tell
+        ends rvmc_null_bytes
+        .section .rodata.rvmc_null_bytes, "a"
+.Lnull: .ascii "a null pointer is read or written"
+.Lnull_end:
+        .byte 0
 
 # a0 to, a1 from, a2 bytes.
         begins memcpy
         beqz a2, .Lcopied
         beqz a0, .Lcopy_null
-        bnez a1, .Lforward
-.Lcopy_null:
-        j rvmc_null_memory
+        beqz a1, .Lcopy_null
 # From the low end: a3 to, a1 from, a4 the end, a5 the last place at which so many bytes are left.
 .Lforward:
         mv a3, a0
@@ -110,6 +128,8 @@ rvmc_null_memory:
         bgeu a5, a3, 3b
         add a1, a1, t4
         j 5b
+.Lcopy_null:
+        null_pointer
         ends memcpy
 
         begins memmove
@@ -119,7 +139,7 @@ rvmc_null_memory:
         sub t0, a0, a1
         bltu t0, a2, .Lbackward
         j .Lforward
-1:      j rvmc_null_memory
+1:      null_pointer
 # From the high end: a3 behind to, a1 behind from, a0 the end, a5 the last place at which so many bytes are left.
 .Lbackward:
         add a3, a0, a2
@@ -200,9 +220,8 @@ rvmc_null_memory:
 # a0 to, a1 the byte, a2 bytes. a3 goes on to a4.
         begins memset
         beqz a2, 9f
-        bnez a0, 1f
-        j rvmc_null_memory
-1:      mv a3, a0
+        beqz a0, 10f
+        mv a3, a0
         add a4, a0, a2
         li t0, 16
         bltu a2, t0, 8f
@@ -237,15 +256,15 @@ rvmc_null_memory:
         addi a3, a3, 1
         bltu a3, a4, 8b
 9:      ret
+10:     null_pointer
         ends memset
 
 # a0 and a1 the sides, a2 bytes, a4 the end of a0. t0 and t1 are 8 bytes of each that may differ.
         begins memcmp
         beqz a2, .Lsame
-        beqz a0, 1f
-        bnez a1, 2f
-1:      j rvmc_null_memory
-2:      add a4, a0, a2
+        beqz a0, .Lcompare_null
+        beqz a1, .Lcompare_null
+        add a4, a0, a2
         li t0, 16
         bltu a2, t0, .Lbytes
         andi t1, a0, 7
@@ -334,6 +353,8 @@ rvmc_null_memory:
 .Lof_bytes:
         sub a0, t0, t1
         ret
+.Lcompare_null:
+        null_pointer
         ends memcmp
 
 # a0 the text, a2 where it is looked at. In 8 bytes of which none is 0, and none above 128, taking 1 from each byte leaves
@@ -393,7 +414,7 @@ rvmc_null_memory:
         sub a0, a2, a0
         ret
 .Lno_text:
-        j rvmc_null_memory
+        null_pointer
         .balign 8
 .Lones: .dword 0x0101010101010101
 .Lnumbers:
