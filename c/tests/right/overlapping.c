@@ -2,7 +2,7 @@
 #include <stdio.h>
 #include <string.h>
 
-#define N 1500
+#define N 300
 static char text[N + 100], copy[N + 100];
 
 int main(void)

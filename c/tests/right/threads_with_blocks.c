@@ -11,7 +11,7 @@ static int work(void *argument)
     size_t size[8];
     int wrong = 0;
 
-    for (int step = 0; step < 300; step++) {
+    for (int step = 0; step < 100; step++) {
         int n = step % 8;
 
         seed = seed * 1103515245 + 12345;
