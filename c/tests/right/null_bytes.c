@@ -9,7 +9,7 @@ static char *volatile names, *volatile others;
 int main(int argc, char **argv)
 {
     char text[100] = "text";
-    volatile int none = 0;
+    volatile int none = 0, some = 100;
     long sum = 0;
 
     MPI_Init(&argc, &argv);
@@ -18,13 +18,13 @@ int main(int argc, char **argv)
     memset(names, 1, none);
     sum += memcmp(names, others, none);
     switch (argc > 1 ? atoi(argv[1]) : 0) {
-    case 1: memcpy(text, names, 100); break;
-    case 2: memcpy(names, text, 100); break;
-    case 3: memmove(text, names, 100); break;
-    case 4: memmove(names, text, 100); break;
-    case 5: memset(names, 1, 100); break;
-    case 6: sum += memcmp(names, text, 100); break;
-    case 7: sum += memcmp(text, names, 100); break;
+    case 1: memcpy(text, names, some); break;
+    case 2: memcpy(names, text, some); break;
+    case 3: memmove(text, names, some); break;
+    case 4: memmove(names, text, some); break;
+    case 5: memset(names, 1, some); break;
+    case 6: sum += memcmp(names, text, some); break;
+    case 7: sum += memcmp(text, names, some); break;
     case 8: sum += strlen(names); break;
     }
     printf("%ld %s\n", sum, text);
