@@ -506,7 +506,7 @@ void rvmc_tell_no_room(const char *call, size_t count, size_t size, size_t besid
         put_size(count);
         rvmc_put(" times ");
         put_size(size);
-        rvmc_put(" bytes: a rank has at most %d\n", (long)MOST);
+        rvmc_put(" bytes: a rank has at most %d bytes\n", (long)MOST);
         return;
     }
     put_size(all);
