@@ -24,7 +24,12 @@ static size_t length_of(const char *text)
     return length_within(text, (size_t)(RVMC_NUMBER(rvmc_memory) - (long)text));
 }
 
-#define READS_TEXT(call, text) READS(call, text, length_of(text) + 1)
+static void tell_null(const char *call, unsigned behind)
+{
+    RVMC_TELL(behind, 0, "a null pointer is given to %s", rvmc_check_call(call, behind));
+}
+
+#define READS_TEXT(call, text) ((text) ? READS(call, text, length_of(text) + 1) : tell_null(call, RVMC_BEHIND))
 
 void *rvmc_checked_memcpy(void *to, const void *from, size_t size)
 {

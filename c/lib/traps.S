@@ -67,6 +67,14 @@
         tail rvmc_bring_back
         ends rvmc_null_call
 
+        # Called by readers.S, where the name of the function stands behind the trap.
+        tells rvmc_null_text, "a null pointer is given to "
+        ld a1, 8(sp)
+        addi a1, a1, 12
+        call rvmc_tell
+        tail rvmc_bring_back
+        ends rvmc_null_text
+
         .section .rodata.rvmc_nothing, "a"
 rvmc_nothing:
         .byte 0
