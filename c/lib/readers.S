@@ -75,6 +75,8 @@ __wrap_\name:
         reader fputs, always, a0, a1
         reader fgets, always, a0, a2
         reader fgetc, always, a0
+        reader fread, always, a3
+        reader fwrite, always, a3
         reader fclose, always, a0
         reader fopen, always, a0, a1
         reader remove, always, a0

@@ -39,11 +39,8 @@
         .size \name, . - \name
         .endm
 
-        # Begins a function that is called by gp, and says what its line begins with, in a0.
-        .macro tells name, what
-        .section .rodata.\name, "a"
-.L\name:
-        .asciz "\what"
+        # Begins a function that is called by gp.
+        .macro begins_by_gp name
         begins \name
         .cfi_return_column gp
         addi sp, sp, -KEPT
@@ -52,6 +49,14 @@
         .cfi_offset ra, 0 - KEPT
         jal rvmc_keep
         are_kept
+        .endm
+
+        # The same, with what its line begins with in a0.
+        .macro tells name, what
+        .section .rodata.\name, "a"
+.L\name:
+        .asciz "\what"
+        begins_by_gp \name
         lla a0, .L\name
         .endm
 
@@ -74,6 +79,13 @@
         call rvmc_tell
         tail rvmc_bring_back
         ends rvmc_null_text
+
+        # Called before each division by 0 of a program that --check looks at.
+        begins_by_gp rvmc_divided
+        ld a0, 8(sp)
+        call rvmc_check_division
+        tail rvmc_bring_back
+        ends rvmc_divided
 
         .section .rodata.rvmc_nothing, "a"
 rvmc_nothing:
