@@ -3,12 +3,11 @@
 
 int main(int argc, char **argv)
 {
-    int rank, sum = 12, share;
+    int rank, sum = 12;
 
     MPI_Init(&argc, &argv);
     MPI_Comm_rank(MPI_COMM_WORLD, &rank);
-    share = rank ? sum / rank : sum;
-    printf("rank %d has %d\n", rank, share);
+    printf("rank %d has %d\n", rank, rank ? sum / rank : sum);
     MPI_Finalize();
     return 0;
 }
