@@ -25,7 +25,7 @@ struct rvmc_descriptor rvmc_descriptors[RVMC_MOST_FILES];
 static const char *input, *input_end;
 static int told_missing;
 
-/* Other ranks find the end at once, as under mpiexec. By this name rvmc-mpi knows that a program may read standard input. */
+/* Other ranks find the end at once. By this name rvmc-mpi knows that a program may read standard input. */
 __attribute__((noinline)) void rvmc_standard_input(void)
 {
     input = rvmc_stdin;
@@ -146,19 +146,19 @@ static int make_room(struct rvmc_file *file, size_t size)
 {
     static int told;
     size_t room = size + size / 2 + 64;
-    char *old = file->room ? file->bytes : 0, *bytes;
+    char *bytes;
 
     if (size <= file->room)
         return 0;
-    if (!(bytes = realloc(old, room)) && !(bytes = realloc(old, room = size))) {
+    if (!(bytes = malloc(room)) && !(bytes = malloc(room = size))) {
         if (!told)
             rvmc_say("the heap has no room for %d bytes of the file %s: rvmc-cc --memory gives more, up to 1048576", (long)size,
                      file->name ? file->name : "of tmpfile");
         told = 1;
         return failed(ENOSPC);
     }
-    if (!file->room)
-        memcpy(bytes, file->bytes, file->size);
+    memcpy(bytes, file->bytes, file->size);
+    release(file->bytes);
     file->bytes = bytes;
     file->room = room;
     return 0;

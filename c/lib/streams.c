@@ -25,8 +25,12 @@ static int put_character(char c, FILE *stream)
     struct rvmc_file *file = open->file;
     size_t at = open->flags & O_APPEND ? file->size : open->at;
 
-    if (at > file->size || at >= file->room)
-        return write(((struct stream *)stream)->number, &c, 1) == 1 ? (unsigned char)c : EOF;
+    if (at > file->size || at >= file->room) {
+        if (write(((struct stream *)stream)->number, &c, 1) == 1)
+            return (unsigned char)c;
+        stream->flags |= __SERR;
+        return EOF;
+    }
     file->bytes[at++] = c;
     open->at = at;
     if (at > file->size)
@@ -68,6 +72,38 @@ static int close_stream(FILE *stream)
 
     free(stream);
     return result;
+}
+
+/* The C library's fread and fwrite go from byte to byte, which takes thirty times as many turns. rvmc-cc links these in their
+   place where a program opens files. */
+size_t __real_fread(void *to, size_t size, size_t count, FILE *stream);
+size_t __real_fwrite(const void *from, size_t size, size_t count, FILE *stream);
+
+static int may(FILE *stream, int flag)
+{
+    return stream->put == put_character && (stream->flags & flag) && !stream->unget;
+}
+
+size_t __wrap_fread(void *to, size_t size, size_t count, FILE *stream)
+{
+    ssize_t got;
+
+    if (!size || !may(stream, __SRD))
+        return __real_fread(to, size, count, stream);
+    got = read(((struct stream *)stream)->number, to, size * count);
+    if (got < (ssize_t)(size * count))
+        stream->flags |= __SEOF;
+    return (size_t)got / size;
+}
+
+size_t __wrap_fwrite(const void *from, size_t size, size_t count, FILE *stream)
+{
+    if (!size || !may(stream, __SWR))
+        return __real_fwrite(from, size, count, stream);
+    if (write(((struct stream *)stream)->number, from, size * count) >= 0)
+        return count;
+    stream->flags |= __SERR;
+    return 0;
 }
 
 /* What open is asked for by fopen's mode, or -1. */
