@@ -141,11 +141,12 @@ static void forget(struct rvmc_file *file)
     release(file);
 }
 
-/* Gives a file room for so many bytes. A program that doesn't look would lose them without a word. */
-static int make_room(struct rvmc_file *file, size_t size)
+/* Gives a file room for so many bytes, and for more if there is some. A program that doesn't look would lose them without a
+   word. */
+static int make_room(struct rvmc_file *file, size_t size, size_t more)
 {
     static int told;
-    size_t room = size + size / 2 + 64;
+    size_t room = size + more;
     char *bytes;
 
     if (size <= file->room)
@@ -168,7 +169,7 @@ static int make_room(struct rvmc_file *file, size_t size)
 static int set_size(struct rvmc_file *file, size_t size)
 {
     if (size > file->size) {
-        if (make_room(file, size))
+        if (make_room(file, size, 0))
             return -1;
         memset(file->bytes + file->size, 0, size - file->size);
     }
@@ -306,7 +307,7 @@ ssize_t write(int number, const void *buffer, size_t size)
         open->at = open->file->size;
     if (!size)
         return 0;
-    if (make_room(open->file, open->at + size))
+    if (make_room(open->file, open->at + size, (open->at + size) / 2 + 64))
         return -1;
     if (open->at > open->file->size)
         set_size(open->file, open->at);
