@@ -1,5 +1,5 @@
 /* streams.c: streams of the rank's files, without a buffer: the file is in memory already, and nothing is lost where a
-   program ends without fclose. */
+   program ends without fclose. Also what the C library has wrong of other streams. */
 #include <errno.h>
 #include <fcntl.h>
 #include <stdio.h>
@@ -215,6 +215,27 @@ FILE *freopen(const char *name, const char *mode, FILE *stream)
         return begin(own, number, flags);
     free(own);
     return 0;
+}
+
+/* The C library's forgets a last line that has no newline. */
+char *fgets(char *to, int size, FILE *stream)
+{
+    int n = 0, next = 0;
+
+    while (n < size - 1 && next != '\n' && (next = getc(stream)) != EOF)
+        to[n++] = (char)next;
+    if (size < 1 || (!n && next == EOF))
+        return 0;
+    to[n] = 0;
+    return to;
+}
+
+/* With no stream it is about all of them, and of these only what is printed waits for anything. */
+int fflush(FILE *stream)
+{
+    if (!stream)
+        stream = stdout;
+    return stream->flush ? stream->flush(stream) : 0;
 }
 
 int fileno(FILE *stream)

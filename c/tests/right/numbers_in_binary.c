@@ -16,7 +16,8 @@ int main(void)
     fseek(file, 2 * sizeof(double), SEEK_SET);
     printf("%d: ", (int)fread(&number, sizeof(number), 1, file));
     printf("%s\n", number == 1e100 ? "the third" : "another");
-    printf("%d: %s\n", (int)fread(&number, sizeof(number), 1, file), feof(file) ? "the end" : "more");
+    printf("%d: ", (int)fread(&number, sizeof(number), 1, file));
+    printf("%s\n", feof(file) ? "the end" : "more");
     fclose(file);
     return 0;
 }
