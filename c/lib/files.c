@@ -13,6 +13,9 @@
 #include "say.h"
 #include "system.h"
 
+/* A program may have a function of its own under a name that is POSIX's. The library calls those that begin with rvmc_. */
+#define POSIX __attribute__((weak))
+
 /* the bytes of a name, with its end */
 enum { LONGEST = 256 };
 
@@ -238,18 +241,18 @@ int rvmc_open_unnamed(void)
     return file ? opened_as(number, file, O_RDWR) : -1;
 }
 
-int open(const char *name, int flags, ...)
+POSIX int open(const char *name, int flags, ...)
 {
     return rvmc_open(name, flags, __builtin_return_address(0));
 }
 
-int creat(const char *name, mode_t mode)
+POSIX int creat(const char *name, mode_t mode)
 {
     (void)mode;
     return rvmc_open(name, O_WRONLY | O_CREAT | O_TRUNC, __builtin_return_address(0));
 }
 
-int close(int number)
+int rvmc_close(int number)
 {
     struct rvmc_file *file;
 
@@ -260,6 +263,11 @@ int close(int number)
     file->opened--;
     forget(file);
     return 0;
+}
+
+POSIX int close(int number)
+{
+    return rvmc_close(number);
 }
 
 static ssize_t read_input(void *buffer, size_t size)
@@ -275,24 +283,27 @@ static ssize_t read_input(void *buffer, size_t size)
     return (ssize_t)size;
 }
 
-ssize_t read(int number, void *buffer, size_t size)
+long rvmc_read(int number, void *buffer, size_t size)
 {
     struct rvmc_descriptor *open = &rvmc_descriptors[number];
     size_t left;
 
-    if (number == 0)
-        return read_input(buffer, size);
     if (!is_open(number) || (open->flags & O_ACCMODE) == O_WRONLY)
         return failed(EBADF);
     left = open->at < open->file->size ? open->file->size - open->at : 0;
     size = size < left ? size : left;
     memcpy(buffer, open->file->bytes + open->at, size);
     open->at += size;
-    return (ssize_t)size;
+    return (long)size;
+}
+
+POSIX ssize_t read(int number, void *buffer, size_t size)
+{
+    return number == 0 ? read_input(buffer, size) : rvmc_read(number, buffer, size);
 }
 
 /* What is written to 1 and 2 is printed. */
-ssize_t write(int number, const void *buffer, size_t size)
+long rvmc_write(int number, const void *buffer, size_t size)
 {
     struct rvmc_descriptor *open = &rvmc_descriptors[number];
 
@@ -316,10 +327,15 @@ ssize_t write(int number, const void *buffer, size_t size)
     if (open->at > open->file->size)
         open->file->size = open->at;
     open->file->changed = open->file->name != 0;
-    return (ssize_t)size;
+    return (long)size;
 }
 
-off_t lseek(int number, off_t offset, int from)
+POSIX ssize_t write(int number, const void *buffer, size_t size)
+{
+    return rvmc_write(number, buffer, size);
+}
+
+long rvmc_seek(int number, long offset, int from)
 {
     struct rvmc_descriptor *open = &rvmc_descriptors[number];
 
@@ -332,14 +348,19 @@ off_t lseek(int number, off_t offset, int from)
     return offset;
 }
 
-int ftruncate(int number, off_t length)
+POSIX off_t lseek(int number, off_t offset, int from)
+{
+    return rvmc_seek(number, offset, from);
+}
+
+POSIX int ftruncate(int number, off_t length)
 {
     if (!is_open(number) || (rvmc_descriptors[number].flags & O_ACCMODE) == O_RDONLY)
         return failed(is_open(number) ? EINVAL : EBADF);
     return length < 0 ? failed(EINVAL) : set_size(rvmc_descriptors[number].file, (size_t)length);
 }
 
-int truncate(const char *name, off_t length)
+POSIX int truncate(const char *name, off_t length)
 {
     struct rvmc_file *file = named(name);
 
@@ -348,7 +369,7 @@ int truncate(const char *name, off_t length)
     return length < 0 ? failed(EINVAL) : set_size(file, (size_t)length);
 }
 
-int fsync(int number)
+POSIX int fsync(int number)
 {
     return is_open(number) ? 0 : failed(number >= 0 && number < RVMC_FIRST_FILE ? EINVAL : EBADF);
 }
@@ -362,21 +383,21 @@ static int described(const struct rvmc_file *file, struct stat *about)
     return 0;
 }
 
-int fstat(int number, struct stat *about)
+POSIX int fstat(int number, struct stat *about)
 {
     if (number >= 0 && number < RVMC_FIRST_FILE)
         return described(0, about);
     return is_open(number) ? described(rvmc_descriptors[number].file, about) : failed(EBADF);
 }
 
-int stat(const char *name, struct stat *about)
+POSIX int stat(const char *name, struct stat *about)
 {
     const struct rvmc_file *file = named(name);
 
     return file ? described(file, about) : -1;
 }
 
-int access(const char *name, int mode)
+POSIX int access(const char *name, int mode)
 {
     if (!named(name))
         return -1;
@@ -384,17 +405,22 @@ int access(const char *name, int mode)
 }
 
 /* Who has it open may read and write it still. */
-int unlink(const char *name)
+static void take_name(struct rvmc_file *file)
 {
-    struct rvmc_file *file = named(name);
-
-    if (!file)
-        return -1;
     told_missing = 1;
     release(file->name);
     file->name = 0;
     file->changed = 0;
     forget(file);
+}
+
+POSIX int unlink(const char *name)
+{
+    struct rvmc_file *file = named(name);
+
+    if (!file)
+        return -1;
+    take_name(file);
     return 0;
 }
 
@@ -411,7 +437,7 @@ int rename(const char *from, const char *to)
     if (!(name = strdup(plain)))
         return failed(ENOSPC);
     if (other)
-        unlink(to);
+        take_name(other);
     told_missing = 1;
     release(file->name);
     file->name = name;
@@ -420,13 +446,13 @@ int rename(const char *from, const char *to)
 }
 
 /* A name may have folders in it, and they need not be made. */
-int mkdir(const char *name, mode_t mode)
+POSIX int mkdir(const char *name, mode_t mode)
 {
     (void)mode;
     return *name ? 0 : failed(ENOENT);
 }
 
-int isatty(int number)
+POSIX int isatty(int number)
 {
     (void)number;
     errno = ENOTTY;

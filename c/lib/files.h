@@ -27,5 +27,9 @@ extern struct rvmc_descriptor rvmc_descriptors[];
 
 int rvmc_open(const char *name, int flags, const void *behind);
 int rvmc_open_unnamed(void);
+int rvmc_close(int number);
+long rvmc_read(int number, void *buffer, size_t size);
+long rvmc_write(int number, const void *buffer, size_t size);
+long rvmc_seek(int number, long offset, int from);
 
 #endif

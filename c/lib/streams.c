@@ -26,7 +26,7 @@ static int put_character(char c, FILE *stream)
     size_t at = open->flags & O_APPEND ? file->size : open->at;
 
     if (at > file->size || at >= file->room) {
-        if (write(((struct stream *)stream)->number, &c, 1) == 1)
+        if (rvmc_write(((struct stream *)stream)->number, &c, 1) == 1)
             return (unsigned char)c;
         stream->flags |= __SERR;
         return EOF;
@@ -57,7 +57,7 @@ static int get_of_input(FILE *stream)
 
 static off_t seek(FILE *stream, off_t offset, int from)
 {
-    return lseek(((struct stream *)stream)->number, offset, from);
+    return rvmc_seek(((struct stream *)stream)->number, offset, from);
 }
 
 static int set_buffer(FILE *stream, char *buffer, int mode, size_t size)
@@ -68,7 +68,7 @@ static int set_buffer(FILE *stream, char *buffer, int mode, size_t size)
 
 static int close_stream(FILE *stream)
 {
-    int result = close(((struct stream *)stream)->number);
+    int result = rvmc_close(((struct stream *)stream)->number);
 
     free(stream);
     return result;
@@ -86,21 +86,21 @@ static int may(FILE *stream, int flag)
 
 size_t __wrap_fread(void *to, size_t size, size_t count, FILE *stream)
 {
-    ssize_t got;
+    long got;
 
     if (!size || !may(stream, __SRD))
         return __real_fread(to, size, count, stream);
-    got = read(((struct stream *)stream)->number, to, size * count);
-    if (got < (ssize_t)(size * count))
+    got = rvmc_read(((struct stream *)stream)->number, to, size * count);
+    if (got < (long)(size * count))
         stream->flags |= __SEOF;
-    return (size_t)got / size;
+    return got < 0 ? 0 : (size_t)got / size;
 }
 
 size_t __wrap_fwrite(const void *from, size_t size, size_t count, FILE *stream)
 {
     if (!size || !may(stream, __SWR))
         return __real_fwrite(from, size, count, stream);
-    if (write(((struct stream *)stream)->number, from, size * count) >= 0)
+    if (rvmc_write(((struct stream *)stream)->number, from, size * count) >= 0)
         return count;
     stream->flags |= __SERR;
     return 0;
@@ -133,7 +133,7 @@ static FILE *begin(struct stream *stream, int number, int flags)
     stream->ext.cfile.file.flags |= way == O_RDONLY ? _FDEV_SETUP_READ : way == O_WRONLY ? _FDEV_SETUP_WRITE : _FDEV_SETUP_RW;
     stream->number = number;
     if (flags & O_APPEND)
-        lseek(number, 0, SEEK_END);
+        rvmc_seek(number, 0, SEEK_END);
     return &stream->ext.cfile.file;
 }
 
@@ -144,7 +144,7 @@ static FILE *stream_of(int number, int flags)
     if (stream)
         return begin(stream, number, flags);
     if (number >= 0)
-        close(number);
+        rvmc_close(number);
     return 0;
 }
 
@@ -155,7 +155,8 @@ FILE *fopen(const char *name, const char *mode)
     return flags < 0 ? 0 : stream_of(rvmc_open(name, flags, __builtin_return_address(0)), flags);
 }
 
-FILE *fdopen(int number, const char *mode)
+/* A program may have a function of its own under these two names. */
+__attribute__((weak)) FILE *fdopen(int number, const char *mode)
 {
     int flags = flags_of(mode);
 
@@ -186,7 +187,7 @@ static FILE *replace_standard(FILE *stream, int number)
         stream->flags = _FDEV_SETUP_READ;
         return stream;
     }
-    close(number);
+    rvmc_close(number);
     errno = EINVAL;
     return 0;
 }
@@ -210,7 +211,7 @@ FILE *freopen(const char *name, const char *mode, FILE *stream)
         rvmc_descriptors[own->number].flags = flags;
         return begin(own, own->number, flags);
     }
-    close(own->number);
+    rvmc_close(own->number);
     if (number >= 0)
         return begin(own, number, flags);
     free(own);
@@ -238,7 +239,7 @@ int fflush(FILE *stream)
     return stream->flush ? stream->flush(stream) : 0;
 }
 
-int fileno(FILE *stream)
+__attribute__((weak)) int fileno(FILE *stream)
 {
     return stream->flags & __SEXT ? ((struct stream *)stream)->number : stream == stdout;
 }
