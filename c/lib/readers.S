@@ -5,7 +5,7 @@
         .cfi_sections .debug_frame
 
         # The registers whose pointers are looked at, unless the number of bytes in another one is 0.
-        .macro reader name, bytes, pointers:vararg
+        .macro reader_to on, name, bytes, pointers:vararg
         .section .text.\name, "ax"
         .globl __wrap_\name
         .type __wrap_\name, @function
@@ -19,10 +19,14 @@ __wrap_\name:
         .irp pointer, \pointers
         beqz \pointer, 2f
         .endr
-1:      tail __real_\name
+1:      tail \on
 2:      is_null \name
         .cfi_endproc
         .size \name, . - \name
+        .endm
+
+        .macro reader name, bytes, pointers:vararg
+        reader_to __real_\name, \name, \bytes, \pointers
         .endm
 
         reader strtol, always, a0
@@ -64,8 +68,8 @@ __wrap_\name:
         reader fputs, always, a0, a1
         reader fgets, always, a0, a2
         reader fgetc, always, a0
-        reader fread, always, a3
-        reader fwrite, always, a3
+        reader_to rvmc_on_fread, fread, always, a3
+        reader_to rvmc_on_fwrite, fwrite, always, a3
         reader fclose, always, a0
         reader fopen, always, a0, a1
         reader remove, always, a0
