@@ -14,64 +14,63 @@ function has_aborted(rank, code, word) {
     split(said[rank], word, " ")
     return word[6] < 0 || word[6] == code
 }
+# the rank, its code, and where it called MPI_Abort
 function abort_words(word) {
     split(said[aborter], word, " ")
     return aborter " " word[6] " " word[8]
 }
-# whether all that a hart waits for are messages of ranks that send none any more
-function waits_in_vain(text, n, i, part, other) {
-    sub(/^.* for a message from /, "a message from ", text)
-    n = split(text, part, "; ")
-    for (i = 1; i <= n; i++) {
-        if (part[i] ~ /^a message from any rank /) {
-            for (other = 0; other < ranks; other++) if (!(other in still)) return 0
-        } else if (part[i] !~ /^a message from rank [0-9]+ / || !(substr(part[i], 21) + 0 in still)) return 0
-    }
-    return 1
-}
-# of ranks that need buffers, one that trapped; or one that waits for ranks that have ended, or wait so themselves
-function stuck_anyway(rank, again) {
-    for (rank in trapped_there) return rank
-    do {
-        again = 0
-        for (rank in waits) {
-            if (!(rank in still) || waits_in_vain(waits[rank])) continue
-            delete still[rank]
-            again = 1
-        }
-    } while (again)
-    for (rank = 0; rank < ranks; rank++) if (rank in waits && rank in still) return rank
-    return ""
-}
-function finish(kind, rank) {
+function finish() {
     if (!number) return
-    rank = needs ? stuck_anyway() : aborter
-    kind = needs ? (rank == "" ? "needs" : "stuck") : traps ? "trap" : aborter != "" ? "abort" : dead ? "dead" : "end"
-    print "outcome", number, kind, (code && !outputs ? 2 : code + 0), lost + 0, (kind == "abort" ? abort_words() : rank)
-    number = needs = traps = dead = code = lost = outputs = 0
+    kind[number] = needs ? "needs" : traps ? "trap" : aborter != "" ? "abort" : dead ? "dead" : "end"
+    rest[number] = (code && !outputs ? 2 : code + 0) " " (lost + 0) " " (kind[number] == "abort" ? abort_words() : needs && traps ? trapper : "")
+    if (kind[number] != "dead" && kind[number] != "needs") waits[number] = ""
+    needs = traps = dead = code = lost = outputs = 0
     aborter = ""
     split("", said)
-    split("", still)
-    split("", waits)
-    split("", trapped_there)
 }
-/^outcome [0-9]+/ { finish(); number = $2 + 0; next }
+# of ranks that need buffers: whether one of them trapped, or waits for the same in the same line as at a deadlock
+function stuck_anyway(number, n, i, k, line, word) {
+    if (rest[number] ~ / [0-9]+$/ && split(rest[number], word, " ") == 3) return word[3] " 0"
+    n = split(waits[number], line, "\n")
+    for (i = 1; i < n; i++) {
+        if (!(line[i] in dead_in)) continue
+        split(line[i], word, " ")
+        return word[2] " " dead_in[line[i]]
+    }
+    return ""
+}
+/^outcome [0-9]+/ {
+    finish()
+    number = $2 + 0
+    next
+}
 /^rank [0-9]+ output [0-9]+$/ { heard($2, $4); next }
 / hart [0-9]+ ended / {
     code += !code && $6 != 0
     if (aborter == "" && has_aborted($2, $6)) aborter = $2
-    still[$2] = 1
 }
 / hart [0-9]+ trapped / {
-    traps = trapped_there[$2] = still[$2] = 1
+    traps = 1
+    trapper = $2
 }
-/ hart [0-9]+ waits at .* for a message from / {
-    still[$2] = 1
-    waits[$2] = $0
-}
+/ hart [0-9]+ waits at / { waits[number] = waits[number] $0 "\n" }
 /^deadlock: / { dead = 1 }
 /^needs buffering: / { needs = 1 }
 / unreceived: / { lost = 1 }
-/^some runs go on for ever$/ { finish(); print "endless" }
-/^[0-9]+ outcomes? of [0-9]+ states?: / { finish(); sub(/^[^:]*: /, ""); print "last " $0 }
-END { finish() }
+/^some runs go on for ever$/ { endless = 1 }
+/^[0-9]+ outcomes? of [0-9]+ states?: / { last = $0; sub(/^[^:]*: /, "", last) }
+END {
+    finish()
+    for (i = 1; i <= number; i++) {
+        n = kind[i] == "dead" ? split(waits[i], line_of, "\n") : 0
+        for (k = 1; k < n; k++) if (!(line_of[k] in dead_in)) dead_in[line_of[k]] = i
+    }
+    for (i = 1; i <= number; i++) {
+        if (!(i in kind)) continue
+        stuck = kind[i] == "needs" ? stuck_anyway(i) : ""
+        if (stuck == "") print "outcome", i, kind[i], rest[i]
+        else print "outcome", i, "stuck", substr(rest[i], 1, 3), stuck
+    }
+    if (endless) print "endless"
+    print "last " last
+}

@@ -5,6 +5,7 @@ FILENAME == ARGV[1] && $1 == "outcome" {
     found++
     kind[$2] = $3
     rank[$2] = $6
+    as_in[$2] = $7
     if ($3 == "abort" || $3 == "cut") aborter[$6] = 1
     ends += $3 !~ /needs|stuck|cut/
     next
@@ -16,7 +17,6 @@ FILENAME == ARGV[2] && /^rank [0-9]+ hart [0-9]+ / { hart = $2 " " $4; next }
 FILENAME == ARGV[2] && /^  called from / { calls[hart] = calls[hart] "\n" substr($0, 3); next }
 FILENAME == ARGV[2] { next }
 /^outcome [0-9]+/ { number = $2 + 0; next }
-/ hart [0-9]+ trapped / { trapped_at[number] = 1 }
 /^rank [0-9]+ output [0-9]+$/ { for (left = $4 + 1; left > 0 && (getline line) > 0; ) left -= length(line) + 1; next }
 number == needed && / hart [0-9]+ waits at / { needs[++n] = $0 }
 
@@ -74,7 +74,7 @@ function buffering(more, i) {
     if (!whole) return "unknown: not all schedules were searched: " left_out
     for (i = 1; i <= found; i++) {
         if (kind[i] != "stuck") continue
-        return "not the cause: rank " rank[i] (trapped_at[i] ? " traps in outcome " i : " waits for ever in outcome " i " with buffers too")
+        return "not the cause: rank " rank[i] (as_in[i] ? " waits in outcome " i " as in outcome " as_in[i] : " traps in outcome " i)
     }
     if (harts > 1) return "unknown: ranks have several harts; --unbuffered searches with sends that all wait"
     if (which("cut") != "") return "unknown: ranks may wait in a send when MPI_Abort is called, as in " which("cut")
