@@ -22,7 +22,9 @@ function abort_words(word) {
 function finish() {
     if (!number) return
     kind[number] = needs ? "needs" : traps ? "trap" : aborter != "" ? "abort" : dead ? "dead" : "end"
-    rest[number] = (code && !outputs ? 2 : code + 0) " " (lost + 0) " " (kind[number] == "abort" ? abort_words() : needs && traps ? trapper : "")
+    rest[number] = (code && !outputs ? 2 : code + 0) " " (lost + 0) " "
+    if (kind[number] == "abort") rest[number] = rest[number] abort_words()
+    else if (needs && traps) rest[number] = rest[number] trapper
     if (kind[number] != "dead" && kind[number] != "needs") waits[number] = ""
     needs = traps = dead = code = lost = outputs = 0
     aborter = ""

@@ -70,7 +70,8 @@ function buffering(more, i) {
         more = more == "" ? "" : "; see also " more
         return "needed: without buffers " waiting(needs, n) " for ever in outcome " needed more
     }
-    if (last == "no other outcome") return "not needed" (ENVIRON["rvmc_polls"] == "" ? "" : ", unless a rank polls for what a waiting send holds back")
+    more = ENVIRON["rvmc_polls"] == "" ? "" : ", unless a rank polls for what a waiting send holds back"
+    if (last == "no other outcome") return "not needed" more
     if (!whole) return "unknown: not all schedules were searched: " left_out
     for (i = 1; i <= found; i++) {
         if (kind[i] != "stuck") continue
