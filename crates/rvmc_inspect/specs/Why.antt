@@ -7,6 +7,7 @@ use Rattle.rv_image_types.specs.declared.images.ImageParts.{ImageParts}
 use Rattle.rv_image_types.specs.declared.images.Symbol.{Symbol}
 use Rattle.mp_hub.specs.Hub.{HubView}
 use Rattle.part_box.specs.declared.settled.Settled.{Settled}
+use Rattle.cl_state.specs.Rank.{Rank}
 use Rattle.cl_state.specs.declared.state.RankState.{RankState}
 use Rattle.cl_state.specs.Room.{rank_of}
 use Rattle.rvmc_report.specs.Below.{ClusterState}
@@ -29,12 +30,12 @@ all_harts_text framed image state = ranks_from framed image.symbols state.hub st
 -- ---- the verdict
 
 -- a hart of the rank has not stopped: it runs, or it waits
-abbrev pub is_live : RankState → Bool
-is_live own = list_any (λ hart. not (is_stopped hart.mode)) own.harts.items
+abbrev pub is_live : Rank → Bool
+is_live rank = list_any (λ hart. not (is_stopped hart.mode)) rank.harts
 
 abbrev pub is_live_at : Option RankState → Bool
 is_live_at None = false
-is_live_at (Some own) = is_live own
+is_live_at (Some own) = is_live (rank_of own)
 
 -- the ranks that a text names: of these, those that have a hart that has not stopped. A rank that has stopped is stuck
 -- beside any others, but waits for nothing. Of ranks in a deadlock one at least is named, since a hart of theirs waits

@@ -2,6 +2,7 @@
 
 ghost use Rattle.std.specs.Prelude.{◌≡◌, ◌++◌, IfOk, OnOk, slice_get, string_bytes};
 ghost use Rattle.std.specs.Option.{option_map};
+ghost use Rattle.cl_state.specs.Room.{rank_of};
 ghost use Rattle.rvmc_inspect.specs.Why.{IsWhy, all_harts_text, company_text, company_waits_text, deadlock_text, is_live, is_live_at, live_ranks};
 ghost use Rattle.rvmc_inspect.specs.Why.{rank_waits_text, ranks_text, stuck_text, more_ranks, rank_word, deadlock_verdict_text};
 
@@ -41,7 +42,7 @@ fn put_all_harts(
 
 /// Whether a hart of the rank has not stopped.
 fn is_live(own: &RankState) -> bool
-    ensures { result ≡ is_live own.now }
+    ensures { result ≡ is_live (rank_of own.now) }
 {
     own.harts.iter().any(|hart| !hart.mode().is_stopped())
 }

@@ -3,7 +3,6 @@ use Rattle.std.proofs.Common.{◌≡◌, ◌∙◌, ℕ, ◌<◌, refl, sym, ap,
 use Rattle.std.specs.Prelude.{codes}
 use Rattle.std.specs.List.{filter, slice_get}
 use Rattle.std.proofs.lemmas.List.{length-map}
-use Rattle.std.proofs.lemmas.Option.{slice_get-map}
 use Rattle.rv_image_types.specs.Image.{IsImage}
 use Rattle.rv_image_types.specs.declared.images.ImageParts.{ImageParts}
 use Rattle.mp_types.specs.declared.requests.Request.{Request}
@@ -38,10 +37,11 @@ use Rattle.rvmc_inspect.specs.Below.{newline}
 use Rattle.rvmc_inspect.specs.Unreceived.{unreceived_text}
 use Rattle.rvmc_inspect.specs.Waits.{box_is_full}
 use Rattle.rvmc_inspect.specs.Why.{all_harts_text, deadlock_verdict_text, is_live_at, live_ranks, ranks_text}
+use Rattle.rvmc_inspect.proofs.Live.{live_over}
 use Rattle.rvmc_text_laws.specs.Laws.{AreAlikeStates, WhyLaw}
 use Rattle.rvmc_text_laws.proofs.Boxes.{box_same}
 use Rattle.rvmc_text_laws.proofs.Lines.{WaitSame, lines_of_states, lines_same, rank_lines}
-use Rattle.rvmc_text_laws.proofs.Live.{is_live_rank, live_of_state, live_same}
+use Rattle.rvmc_text_laws.proofs.Live.{live_same}
 use Rattle.rvmc_text_laws.proofs.Unreceived.{unreceived_same}
 use Rattle.rvmc_text_laws.proofs.Waits.{MayAsk, waits_same}
 
@@ -165,18 +165,11 @@ module _ (image : ImageParts) (s t : ClusterState) (alike : AreAlikeStates image
       (found image a (record { right = right; reached = (alike.first).reached; stands = (alike.first).stands }))
       (also image b (record { right = right; reached = (alike.second).reached; stands = (alike.second).stands }))
 
-  -- whether a rank of a state has stopped, over its cluster
-  live_over : (state : ClusterState) (cluster : Cluster) → ClusterStandsFor image state cluster → (r : ℕ)
-      → is_live_at (slice_get state.ranks.items r) ≡ is_live_rank (slice_get cluster.ranks r)
-  live_over state cluster stands r =
-      live_of_state (slice_get state.ranks.items r)
-      ∙ ap is_live_rank (sym (slice_get-map rank_of state.ranks.items r))
-      ∙ ap (λ (rs : List Rank). is_live_rank (slice_get rs r)) (sym stands.ranks_are)
-
   each_live_same : (r : ℕ) → is_live_at (slice_get t.ranks.items r) ≡ is_live_at (slice_get s.ranks.items r)
   each_live_same r =
-      live_over t b (alike.second).stands r ∙ live_same names a.ranks b.ranks ((alike.alike).1).ranks r
-      ∙ sym (live_over s a (alike.first).stands r)
+      live_over t.ranks.items b.ranks ((alike.second).stands).ranks_are r
+      ∙ live_same names a.ranks b.ranks ((alike.alike).1).ranks r
+      ∙ sym (live_over s.ranks.items a.ranks ((alike.first).stands).ranks_are r)
 
   -- the same ranks are named
   live_ranks_same : (ranks : List ℕ) → live_ranks t ranks ≡ live_ranks s ranks
