@@ -8,7 +8,7 @@ ghost use Rattle.cl_calls.specs.Site.{member};
 ghost use Rattle.cl_state.specs.Room.{rank_of};
 ghost use Rattle.rvmc_inspect.specs.Texts.{hart_head};
 ghost use Rattle.rvmc_inspect.specs.Waits.{waits as waits_of};
-ghost use Rattle.rvmc_inspect.specs.Why.{live_ranks, ranks_text};
+ghost use Rattle.rvmc_inspect.specs.Why.{live_ranks, rank_names};
 ghost use Rattle.rvmc_explore.specs.Needs.{awaited_sends, behind_text, held_rank_text, held_text, lacks_receive_at, need_line, need_text};
 ghost use Rattle.rvmc_explore.specs.Needs.{receiver_at, sends_to, rest_in, rest_line, rest_of, send_wait, sends_ahead};
 

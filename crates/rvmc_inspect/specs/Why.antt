@@ -49,12 +49,12 @@ abbrev pub more_ranks : List ℕ → List ℕ
 more_ranks ranks = flat_map rank_word ranks
 
 -- `rank 0`, `ranks 0 1`
-abbrev pub ranks_text : List ℕ → List ℕ
-ranks_text ranks = (if length ranks == 1 then codes "rank" else codes "ranks") ++ more_ranks ranks
+abbrev pub rank_names : List ℕ → List ℕ
+rank_names ranks = (if length ranks == 1 then codes "rank" else codes "ranks") ++ more_ranks ranks
 
 -- these ranks are stuck together: the text names those that wait
 abbrev pub deadlock_text : ClusterState → List ℕ → List ℕ
-deadlock_text state ranks = codes "deadlock: " ++ (ranks_text (live_ranks state ranks) ++ newline)
+deadlock_text state ranks = codes "deadlock: " ++ (rank_names (live_ranks state ranks) ++ newline)
 
 -- `deadlock: ranks 0 1`, or `no deadlock shown`
 abbrev pub deadlock_verdict_text : ClusterState → Option (List ℕ) → List ℕ
@@ -92,7 +92,7 @@ company_waits_text image state ranks = flat_map (rank_waits_text image state) ra
 -- `deadlock: ranks 1 2 while others run on`
 abbrev pub stuck_text : ClusterState → List ℕ → List ℕ
 stuck_text state ranks =
-    codes "deadlock: " ++ (ranks_text (live_ranks state ranks) ++ (codes " while others run on" ++ newline))
+    codes "deadlock: " ++ (rank_names (live_ranks state ranks) ++ (codes " while others run on" ++ newline))
 
 -- and that they are stuck
 abbrev pub company_text : ImageParts → ClusterState → List ℕ → List ℕ

@@ -4,7 +4,7 @@ ghost use Rattle.std.specs.Prelude.{◌≡◌, ◌++◌, IfOk, OnOk, slice_get, 
 ghost use Rattle.std.specs.Option.{option_map};
 ghost use Rattle.cl_state.specs.Room.{rank_of};
 ghost use Rattle.rvmc_inspect.specs.Why.{IsWhy, all_harts_text, company_text, company_waits_text, deadlock_text, is_live, is_live_at, live_ranks};
-ghost use Rattle.rvmc_inspect.specs.Why.{rank_waits_text, ranks_text, stuck_text, more_ranks, rank_word, deadlock_verdict_text};
+ghost use Rattle.rvmc_inspect.specs.Why.{rank_waits_text, rank_names, stuck_text, more_ranks, rank_word, deadlock_verdict_text};
 
 use crate::harts::put_harts;
 use crate::unreceived::put_unreceived;
@@ -90,7 +90,7 @@ fn put_more_ranks(alloc: Global, text: &mut Vec<u8>, ranks: &[u8]) -> Result<(),
 
 /// Adds ranks, as `rank 0` or `ranks 0 1`.
 fn put_ranks(alloc: Global, text: &mut Vec<u8>, ranks: &[u8]) -> Result<(), AllocError>
-    ensures { OnOk result (text.new.items ≡ text.old.items ++ ranks_text ranks.now) }
+    ensures { OnOk result (text.new.items ≡ text.old.items ++ rank_names ranks.now) }
 {
     let word: &[u8] = if ranks.len() == 1 { b"rank" } else { b"ranks" };
     text.extend_from_slice(word)?;
@@ -104,7 +104,7 @@ pub fn put_live_ranks(
     state: &ClusterState,
     ranks: &[u8],
 ) -> Result<(), AllocError>
-    ensures { OnOk result (text.new.items ≡ text.old.items ++ ranks_text (live_ranks state.now ranks.now)) }
+    ensures { OnOk result (text.new.items ≡ text.old.items ++ rank_names (live_ranks state.now ranks.now)) }
 {
     let live = live_ranks(alloc, state, ranks)?;
     put_ranks(alloc, text, live.as_slice())

@@ -36,7 +36,7 @@ use Rattle.cl_verdict_laws.proofs.Verdicts.{verdict_law}
 use Rattle.rvmc_inspect.specs.Below.{newline}
 use Rattle.rvmc_inspect.specs.Unreceived.{unreceived_text}
 use Rattle.rvmc_inspect.specs.Waits.{box_is_full}
-use Rattle.rvmc_inspect.specs.Why.{all_harts_text, deadlock_verdict_text, is_live_at, live_ranks, ranks_text}
+use Rattle.rvmc_inspect.specs.Why.{all_harts_text, deadlock_verdict_text, is_live_at, live_ranks, rank_names}
 use Rattle.rvmc_inspect.proofs.Live.{live_over}
 use Rattle.rvmc_text_laws.specs.Laws.{AreAlikeStates, WhyLaw}
 use Rattle.rvmc_text_laws.proofs.Boxes.{box_same}
@@ -177,7 +177,7 @@ module _ (image : ImageParts) (s t : ClusterState) (alike : AreAlikeStates image
 
   named_same : (found : Option (List ℕ)) → deadlock_verdict_text t found ≡ deadlock_verdict_text s found
   named_same None = refl
-  named_same (Some ranks) = λ i. codes "deadlock: " ++ (ranks_text (live_ranks_same ranks i) ++ newline)
+  named_same (Some ranks) = λ i. codes "deadlock: " ++ (rank_names (live_ranks_same ranks i) ++ newline)
 
   verdict_text_same : IsImage image → (one other : Option (List ℕ)) → IsDeadlockVerdict s one → IsDeadlockVerdict t other
       → deadlock_verdict_text s one ≡ deadlock_verdict_text t other
