@@ -3,6 +3,8 @@ pub mod Read
 pub mod Places
 pub mod Laws
 pub mod Worked
+pub mod Ways
+pub mod Pointers
 pub mod Frames
 pub mod WorkedFrames
 pub mod Callers

@@ -18,7 +18,7 @@ abbrev frame : ℕ → ℕ → ℕ → Frame
 frame pointer back above = record { pointer = pointer; back = back; above = above }
 
 abbrev Has : List ℕ → ℕ → List Frame → Type 0
-Has words s0 chain = frames (memory_of words) (hart_at s0) ≡ chain
+Has words s0 chain = frames [] (memory_of words) (hart_at s0) ≡ chain
 
 pub a_chain_of_three : Has (0 ∷ 0 ∷ 48 ∷ 28 ∷ 64 ∷ 24 ∷ 0 ∷ 20 ∷ []) 32
     (frame 32 28 48 ∷ frame 48 24 64 ∷ frame 64 20 0 ∷ [])

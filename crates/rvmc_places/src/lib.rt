@@ -11,8 +11,10 @@ mod laws;
 mod names;
 mod near;
 mod own_calls;
+mod pointers;
 mod starts;
 mod texts;
+mod ways;
 
 pub use callers::{put_callers, put_calls};
 pub use causes::{has_overflowed, put_trap, put_trapped};
