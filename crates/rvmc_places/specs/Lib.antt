@@ -7,6 +7,7 @@ pub mod Ways
 pub mod Pointers
 pub mod Frames
 pub mod WorkedFrames
+pub mod WorkedWays
 pub mod Callers
 pub mod OwnCalls
 pub mod WorkedCalls
