@@ -1,11 +1,12 @@
 -- Ways, one more instruction and one more way at a time.
-use Rattle.std.proofs.Common.{ℕ, zero, suc, ◌≡◌, ◌∙◌, ◌+◌, ◌-◌, ◌<◌, ◌≤◌, ◌||◌, is_some, true, false, refl, ap, arith}
+use Rattle.std.proofs.Common.{ℕ, suc, ◌≡◌, ◌∙◌, ◌+◌, ◌-◌, ◌<◌, ◌≤◌, is_some, true, false, refl, ap, arith}
 use Rattle.std.specs.Prelude.{Option, Some, None}
 use Rattle.rv_hart.specs.State.{State}
 use Rattle.rv_memory.specs.Memory.{Memory}
-use Rattle.rvmc_places.specs.Pointers.{sets_pointer, some_sets, stored_by}
+use Rattle.rvmc_places.specs.Pointers.{pointer_at, pointer_behind}
 use Rattle.rvmc_places.specs.Ways.{advanced, instruction_at, leads, led, way, way_among}
 use Rattle.rvmc_places.specs.declared.frames.Frame.{Frame}
+use Rattle.rvmc_places.specs.declared.pointers.Pointer.{Pointer}
 use Rattle.rvmc_places.specs.declared.ways.Progress.{Progress}
 use Rattle.rvmc_places.specs.declared.ways.Progress.TheVariants.{On, Out, Lost}
 use Rattle.rvmc_places.specs.declared.ways.Spot.{Spot}
@@ -56,17 +57,16 @@ pub none_found : (memory : Memory) (hart : State) (left : ℕ) (next : Option Fr
 none_found memory hart left None none = refl
 none_found memory hart left (Some frame) none = cc
 
--- ---- instructions that set a frame pointer
+-- ---- what s0 is
 
-pub one_looked_at : (memory : Memory) (at count n : ℕ) (stored : Option ℕ) → n < count
-    → some_sets memory at (count - n) stored
-    ≡ (sets_pointer (instruction_at memory at) stored
-    || some_sets memory (at + 4) (count - (n + 1)) (stored_by (instruction_at memory at) stored))
-one_looked_at memory at count n stored less =
+pub behind_one : (memory : Memory) (at count n : ℕ) (pointer : Pointer) → n < count
+    → pointer_at memory at (count - n) pointer
+    ≡ pointer_at memory (at + 4) (count - (n + 1)) (pointer_behind (instruction_at memory at) pointer)
+behind_one memory at count n pointer less =
     let more : count - n ≡ suc (count - (n + 1)) = omega (arith, less) in
-    ap (λ left. some_sets memory at left stored) more
+    ap (λ left. pointer_at memory at left pointer) more
 
-pub none_looked_at : (memory : Memory) (at count n : ℕ) (stored : Option ℕ) → count ≤ n
-    → some_sets memory at (count - n) stored ≡ false
-none_looked_at memory at count n stored end =
-    let none : count - n ≡ 0 = omega (arith, end) in ap (λ left. some_sets memory at left stored) none
+pub behind_all : (memory : Memory) (at count n : ℕ) (pointer : Pointer) → count ≤ n
+    → pointer_at memory at (count - n) pointer ≡ pointer
+behind_all memory at count n pointer end =
+    let none : count - n ≡ 0 = omega (arith, end) in ap (λ left. pointer_at memory at left pointer) none

@@ -1,11 +1,13 @@
 -- Whether a function keeps a frame pointer: s0 (x8) is the address behind its frame then.
 use Rattle.std.proofs.Common.{zero, suc}
-use Rattle.std.specs.Prelude.{ℕ, ◌+◌, ◌-◌, ◌/◌, ◌==◌, ◌&&◌, ◌||◌, if◌then◌else◌, Bool, true, false, List, ℤ}
+use Rattle.std.specs.Prelude.{ℕ, ◌+◌, ◌-◌, ◌/◌, ◌==◌, ◌&&◌, ◌||◌, if◌then◌else◌, Bool, true, false, List}
 use Rattle.std.specs.Prelude.{Option, None, Some}
 use Rattle.rv_decode.specs.declared.instruction.ImmOp.{ImmOp}
 use Rattle.rv_decode.specs.declared.instruction.ImmOp.TheVariants.{Addi}
 use Rattle.rv_decode.specs.declared.instruction.Instr.{Instr}
-use Rattle.rv_decode.specs.declared.instruction.Instr.TheVariants.{Imm, Store}
+use Rattle.rv_decode.specs.declared.instruction.Instr.TheVariants.{Imm, Jal, Jalr, Load, Store}
+use Rattle.rv_decode.specs.declared.instruction.LoadOp.{LoadOp}
+use Rattle.rv_decode.specs.declared.instruction.LoadOp.TheVariants.{Ld}
 use Rattle.rv_decode.specs.declared.instruction.StoreOp.{StoreOp}
 use Rattle.rv_decode.specs.declared.instruction.StoreOp.TheVariants.{Sd}
 use Rattle.rv_hart.specs.Effect.{offset}
@@ -15,9 +17,11 @@ use Rattle.rv_memory.specs.Memory.{Memory}
 use Rattle.rvmc_places.specs.Places.{nearest_of}
 use Rattle.rvmc_places.specs.Ways.{instruction_at}
 use Rattle.rvmc_places.specs.declared.near.Kind.TheVariants as kind
+use Rattle.rvmc_places.specs.declared.pointers.Pointer.{Pointer}
+use Rattle.rvmc_places.specs.declared.pointers.Pointer.TheVariants.{Callers, Own, Restored}
 
--- a function that keeps one stores its caller's s0, `sd s0, n(sp)`, and then sets its own, `addi s0, sp, n + 16`; or
--- `n + 8`, where it calls no other and stores no return address between
+-- A function that keeps one stores its caller's s0, `sd s0, n(sp)`, and then sets its own, `addi s0, sp, n + 16`; or
+-- `n + 8`, where it calls no other and stores no return address between. Before it returns it restores its caller's.
 
 abbrev pub is_sd : StoreOp → Bool
 is_sd Sd = true
@@ -27,39 +31,66 @@ abbrev pub is_addi : ImmOp → Bool
 is_addi Addi = true
 is_addi op = false
 
--- where s0 was stored, as an offset from sp
-abbrev pub stored_by : Option Instr → Option ℕ → Option ℕ
-stored_by (Some (Store op rs1 rs2 off)) stored =
-    if is_sd op && ((rs1 == 2) && (rs2 == 8)) then Some (offset 0 off) else stored
-stored_by instruction stored = stored
+abbrev pub is_ld : LoadOp → Bool
+is_ld Ld = true
+is_ld op = false
 
+-- whether an address behind the frame is this offset from sp, by that of the stored s0
 abbrev pub is_behind : Option ℕ → ℕ → Bool
 is_behind None pointer = false
 is_behind (Some stored) pointer = (pointer == stored + 16) || (pointer == stored + 8)
 
--- whether an instruction sets s0 so
-abbrev pub sets_pointer : Option Instr → Option ℕ → Bool
-sets_pointer (Some (Imm op rd rs1 imm)) stored =
-    is_addi op && ((rd == 8) && ((rs1 == 2) && is_behind stored (offset 0 imm)))
-sets_pointer instruction stored = false
+-- what s0 is behind an instruction: where it was the caller's, and stored at this offset from sp, or nowhere
+abbrev pub from_callers : Instr → Option ℕ → Pointer
+from_callers (Store op rs1 rs2 off) stored =
+    if is_sd op && ((rs1 == 2) && (rs2 == 8)) then Callers (Some (offset 0 off)) else Callers stored
+from_callers (Imm op rd rs1 imm) stored =
+    if is_addi op && ((rd == 8) && ((rs1 == 2) && is_behind stored (offset 0 imm))) then Own else Callers stored
+from_callers instruction stored = Callers stored
 
--- whether one of so many instructions from an address on does
-abbrev pub some_sets : Memory → ℕ → ℕ → Option ℕ → Bool
-some_sets memory at zero stored = false
-some_sets memory at (suc left) stored =
-    sets_pointer (instruction_at memory at) stored
-    || some_sets memory (at + 4) left (stored_by (instruction_at memory at) stored)
+-- where it was the function's own
+abbrev pub from_own : Instr → Pointer
+from_own (Load op rd rs1 off) = if is_ld op && ((rd == 8) && (rs1 == 2)) then Restored else Own
+from_own instruction = Own
+
+-- where it was restored: behind the return, or a jump in place of it, it is as before
+abbrev pub behind_jump : ℕ → Pointer
+behind_jump rd = if (rd == 0) then Own else Restored
+
+abbrev pub from_restored : Instr → Pointer
+from_restored (Jal rd off) = behind_jump rd
+from_restored (Jalr rd rs1 off) = behind_jump rd
+from_restored instruction = Restored
+
+abbrev pub pointer_after : Instr → Pointer → Pointer
+pointer_after instruction (Callers stored) = from_callers instruction stored
+pointer_after instruction Own = from_own instruction
+pointer_after instruction Restored = from_restored instruction
+
+abbrev pub pointer_behind : Option Instr → Pointer → Pointer
+pointer_behind None pointer = pointer
+pointer_behind (Some instruction) pointer = pointer_after instruction pointer
+
+-- behind so many instructions from an address on
+abbrev pub pointer_at : Memory → ℕ → ℕ → Pointer → Pointer
+pointer_at memory at zero pointer = pointer
+pointer_at memory at (suc left) pointer =
+    pointer_at memory (at + 4) left (pointer_behind (instruction_at memory at) pointer)
+
+abbrev pub is_own : Pointer → Bool
+is_own Own = true
+is_own pointer = false
 
 abbrev pub is_text : Option ℕ → Bool
 is_text None = false
 is_text (Some word) = true
 
--- whether one before this place does, behind the label
+-- whether s0 is the function's own frame pointer at a place, by the instructions from its label on
 abbrev pub keeps_from : Memory → ℕ → Option Symbol → Bool
 keeps_from memory at None = true
 keeps_from memory at (Some label) =
-    is_text (word_at memory at) && some_sets memory label.address ((at - label.address) / 4) None
+    is_text (word_at memory at) && is_own (pointer_at memory label.address ((at - label.address) / 4) (Callers None))
 
--- whether the function of a place keeps a frame pointer there. One that has no label is taken to
+-- and by its nearest label. A function that has none is taken to keep one
 abbrev pub keeps_pointer : List Symbol → Memory → ℕ → Bool
 keeps_pointer symbols memory at = keeps_from memory at (nearest_of kind.Label symbols at)

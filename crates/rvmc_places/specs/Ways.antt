@@ -2,7 +2,7 @@
 -- (Integer Register Convention) every way to a function's return restores sp (x2) and s0 (x8) and has the return address
 -- in ra (x1), so that any of them tells the three.
 use Rattle.std.proofs.Common.{zero, suc}
-use Rattle.std.specs.Prelude.{ℕ, ◌+◌, ◌-◌, ◌*◌, ◌/◌, ◌%◌, ◌^◌, ◌==◌, ◌&&◌, ◌||◌, not, if◌then◌else◌, Bool, true, false, ℤ, pos}
+use Rattle.std.specs.Prelude.{ℕ, ◌+◌, ◌-◌, ◌*◌, ◌/◌, ◌%◌, ◌^◌, ◌==◌, ◌&&◌, ◌||◌, not, if◌then◌else◌, Bool, false, ℤ, pos}
 use Rattle.std.specs.Prelude.{Option, None, Some, option_and_then}
 use Rattle.rv_decode.specs.Decoded.{decoded}
 use Rattle.rv_decode.specs.declared.instruction.ArithOp.{ArithOp}
