@@ -47,7 +47,7 @@ pointed_frame memory hart = option_map (of_leaf hart) (frame_at memory (read har
 
 -- the frame of the function that a hart is in. One that has jumped out of the text is at its end
 abbrev pub way_of : Memory → State → Bool → Option Frame
-way_of memory hart true = way_out memory (in_mode hart Running)
+way_of memory hart true = way_out memory hart
 way_of memory hart false = led memory hart
 
 -- the hart when the function of a frame has returned, as far as it is known
@@ -62,9 +62,9 @@ own_frame_by true memory hart = pointed_frame memory hart
 own_frame_by false memory hart =
     option_or (way_of memory hart (is_text (word_at memory hart.pc))) (pointed_frame memory hart)
 
--- the frame of the function that a hart is in
+-- the frame of the function that a hart is in, whatever its mode
 abbrev pub own_frame : List Symbol → Memory → State → Option Frame
-own_frame symbols memory hart = own_frame_by (keeps_pointer symbols memory hart.pc) memory hart
+own_frame symbols memory hart = own_frame_by (keeps_pointer symbols memory hart.pc) memory (in_mode hart Running)
 
 abbrev pub caller_frame_by : Bool → Memory → Frame → Option Frame
 caller_frame_by true memory frame = frame_at memory frame.above

@@ -1,8 +1,8 @@
 //! The frames of the functions that a hart is in: by frame pointers, or by the way out of those that keep none.
 
 ghost use Rattle.std.specs.Prelude.{◌≡◌};
-ghost use Rattle.rvmc_places.specs.Frames.{caller_frame, frame_above, frame_at, of_leaf, own_frame, pointed_frame, returned};
-ghost use Rattle.rvmc_places.specs.Frames.{risen, way_of};
+ghost use Rattle.rvmc_places.specs.Frames.{caller_frame, frame_above, frame_at, of_leaf, own_frame, own_frame_by, pointed_frame};
+ghost use Rattle.rvmc_places.specs.Frames.{returned, risen, way_of};
 ghost use Rattle.rvmc_places.specs.Pointers.{is_text};
 ghost use Rattle.rv_memory.specs.Access.{word_at};
 
@@ -111,21 +111,28 @@ fn way_of(memory: &RankMemory, hart: &Hart) -> Option<Frame>
     if memory.text_word(hart.pc()).is_none() {
         return led(memory, hart);
     }
-    let mut walker = *hart;
-    walker.set_mode(Mode::Running);
-    way_out(memory, &walker)
+    way_out(memory, hart)
 }
 
-/// The frame of the function that the hart is in. Where that one calls no other, its return address may be in x1 alone,
-/// and the caller's frame pointer in the place of it.
-pub fn own_frame(symbols: &[Symbol], memory: &RankMemory, hart: &Hart) -> Option<Frame>
-    ensures { result ≡ own_frame symbols.now memory.now hart.now }
+/// The frame of the function that a running hart is in, if it keeps a frame pointer, or else.
+fn own_frame_by(keeps: bool, memory: &RankMemory, hart: &Hart) -> Option<Frame>
+    ensures { result ≡ own_frame_by keeps memory.now hart.now }
 {
-    if !keeps_pointer(symbols, memory, hart.pc()) {
+    if !keeps {
         let found = way_of(memory, hart);
         if found.is_some() {
             return found;
         }
     }
     pointed_frame(memory, hart)
+}
+
+/// The frame of the function that the hart is in, whatever its mode: by its frame pointer, or by a way out of it.
+pub fn own_frame(symbols: &[Symbol], memory: &RankMemory, hart: &Hart) -> Option<Frame>
+    ensures { result ≡ own_frame symbols.now memory.now hart.now }
+{
+    let keeps = keeps_pointer(symbols, memory, hart.pc());
+    let mut running = *hart;
+    running.set_mode(Mode::Running);
+    own_frame_by(keeps, memory, &running)
 }
