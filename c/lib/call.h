@@ -86,6 +86,8 @@ RVMC_INLINE rvmc_answer rvmc_call(long number, long x0, long x1, long x2, long x
 
 /* What the linker is told of the image: numbers in the place of addresses. The communicators are those of --comm. */
 extern char rvmc_harts[], rvmc_stack[], rvmc_communicators[], rvmc_stacks[], rvmc_memory[];
+/* What --check has of each stack for itself, and what a stack has beside that where there is memory enough. */
+extern char rvmc_spare_stack[], rvmc_usual_stack[];
 #define RVMC_NUMBER(symbol) ((long)(symbol))
 /* The machine's communicator in which the library talks, of all ranks. start.S has it too. */
 #define RVMC_TWIN 1

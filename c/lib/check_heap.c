@@ -5,6 +5,7 @@
 #include <stdlib.h>
 #include <string.h>
 #include "checked.h"
+#include "heap.h"
 
 /* Bytes before and behind each block, and how many freed blocks and bytes of them are kept at most. */
 enum { ZONE = 32, KEPT_BLOCKS = 256, KEPT_BYTES = 65536, BLOCKS_AT_FIRST = 64 };
@@ -13,8 +14,10 @@ enum { ZONE = 32, KEPT_BLOCKS = 256, KEPT_BYTES = 65536, BLOCKS_AT_FIRST = 64 };
 #define WORD 0xfbf1f9fdU
 const unsigned long rvmc_check_fresh = (unsigned long)WORD << 32 | WORD;
 
-enum { MALLOC, CALLOC, REALLOC, STRDUP, OTHER };
-static const char *const givers[] = {"malloc", "calloc", "realloc", "strdup", "aligned_alloc"};
+enum { MALLOC, CALLOC, REALLOC, REALLOCARRAY, STRDUP, STRNDUP, ALIGNED_ALLOC, MEMALIGN, POSIX_MEMALIGN };
+static const char *const givers[] = {
+    "malloc", "calloc", "realloc", "reallocarray", "strdup", "strndup", "aligned_alloc", "memalign", "posix_memalign"
+};
 
 struct block {
     unsigned at, size, given, freed;              /* where it is; the calls that gave it and took it back */
@@ -212,21 +215,19 @@ static void fill(char *at, unsigned long size)
         at[i] = (char)(WORD >> 8 * (i % 4));
 }
 
-static void tell_no_room(size_t size, int giver, unsigned behind)
+static void tell_no_room(size_t number, size_t size, size_t align, int giver, unsigned behind)
 {
-    if (size && rvmc_place_of((const void *)(unsigned long)behind))
-        rvmc_say("%s: the heap has no room for %s of %d bytes: rvmc-cc --memory gives more, up to 1048576",
-                 rvmc_check_line(behind), givers[giver], (long)size);
+    rvmc_tell_no_room(givers[giver], number, size, 2 * ZONE + align, (const void *)(unsigned long)behind);
 }
 
-static void *real_block(size_t size)
+static void *real_block(size_t size, size_t align)
 {
     void *real;
 
-    if (size > (size_t)RVMC_NUMBER(rvmc_memory) || !make_room())
+    if (size > (size_t)RVMC_NUMBER(rvmc_memory) || align > (size_t)RVMC_NUMBER(rvmc_memory) || !make_room())
         return 0;
     do
-        real = __real_malloc(size + 2 * ZONE);
+        real = __real_malloc(size + align + 2 * ZONE);
     while (!real && release_oldest());
     return real;
 }
@@ -243,11 +244,10 @@ static int is_programs(unsigned behind)
    to an operation, may have gaps that nobody has written. */
 static void *give(size_t size, size_t align, int giver, unsigned behind)
 {
-    static int told_no_room;
     unsigned long real, at;
 
     rvmc_check_lock();
-    real = (unsigned long)real_block(size + align);
+    real = (unsigned long)real_block(size, align);
     at = real + ZONE;
     if (real) {
         at = (at + align - 1) & ~(align - 1);
@@ -258,9 +258,8 @@ static void *give(size_t size, size_t align, int giver, unsigned behind)
             fill((char *)at, size);
         fill((char *)at + size, ZONE);
         insert((struct block){(unsigned)at, (unsigned)size, behind, 0, (unsigned)real, (unsigned char)giver, 0, 0});
-    } else if (!told_no_room) {
-        told_no_room = 1;
-        tell_no_room(size, giver, behind);
+    } else {
+        tell_no_room(1, size, align, giver, behind);
     }
     rvmc_check_unlock();
     if (!real)
@@ -311,54 +310,94 @@ void __wrap_free(void *memory)
     take_back(memory, "free", RVMC_BEHIND);
 }
 
-void *__wrap_calloc(size_t number, size_t size)
+/* The bytes of so many elements, or 0 where there are more than a number has. */
+static int product(size_t number, size_t size, size_t *all, int giver, unsigned behind)
 {
-    size_t all = number * size;
-
-    return size && all / size != number ? 0 : give(all, 16, CALLOC, RVMC_BEHIND);
+    *all = number * size;
+    if (!size || *all / size == number)
+        return 1;
+    tell_no_room(number, size, 16, giver, behind);
+    errno = ENOMEM;
+    return 0;
 }
 
-void *__wrap_realloc(void *old, size_t size)
+void *__wrap_calloc(size_t number, size_t size)
 {
-    unsigned behind = RVMC_BEHIND;
+    size_t all;
+
+    return product(number, size, &all, CALLOC, RVMC_BEHIND) ? give(all, 16, CALLOC, RVMC_BEHIND) : 0;
+}
+
+static void *resize(void *old, size_t size, int giver, unsigned behind)
+{
     struct block *b = old ? block_at((unsigned)(unsigned long)old) : 0;
     unsigned before = b ? b->size : 0;
     void *memory;
 
     if (old && (!b || b->is_freed)) {
-        take_back(old, "realloc", behind);
+        take_back(old, givers[giver], behind);
         return 0;
     }
-    memory = give(size, 16, REALLOC, behind);
+    memory = give(size, 16, giver, behind);
     if (memory && old) {
         memcpy(memory, old, before < size ? before : size);
-        take_back(old, "realloc", behind);
+        take_back(old, givers[giver], behind);
     }
     return memory;
 }
 
-char *rvmc_heap_copy(const char *text, unsigned behind)
+void *__wrap_realloc(void *old, size_t size)
 {
-    size_t size = strlen(text) + 1;
-    char *copy = give(size, 16, STRDUP, behind);
+    return resize(old, size, REALLOC, RVMC_BEHIND);
+}
 
-    return copy ? memcpy(copy, text, size) : 0;
+void *__wrap_reallocarray(void *old, size_t number, size_t size)
+{
+    size_t all;
+
+    return product(number, size, &all, REALLOCARRAY, RVMC_BEHIND) ? resize(old, all, REALLOCARRAY, RVMC_BEHIND) : 0;
+}
+
+char *rvmc_heap_copy(const char *text, size_t length, int is_part, unsigned behind)
+{
+    char *copy = give(length + 1, 16, is_part ? STRNDUP : STRDUP, behind);
+
+    if (copy) {
+        memcpy(copy, text, length);
+        copy[length] = 0;
+    }
+    return copy;
+}
+
+/* A multiple that is no power of two is refused. */
+static void *aligned(size_t align, size_t size, int giver, unsigned behind)
+{
+    if (align && !(align & (align - 1)))
+        return give(size, align < 16 ? 16 : align, giver, behind);
+    errno = EINVAL;
+    return 0;
 }
 
 void *__wrap_aligned_alloc(size_t align, size_t size)
 {
-    return give(size, align < 16 ? 16 : align, OTHER, RVMC_BEHIND);
+    return aligned(align, size, ALIGNED_ALLOC, RVMC_BEHIND);
 }
 
 void *__wrap_memalign(size_t align, size_t size)
 {
-    return give(size, align < 16 ? 16 : align, OTHER, RVMC_BEHIND);
+    return aligned(align, size, MEMALIGN, RVMC_BEHIND);
 }
 
 int __wrap_posix_memalign(void **place, size_t align, size_t size)
 {
-    *place = give(size, align < 16 ? 16 : align, OTHER, RVMC_BEHIND);
-    return *place ? 0 : ENOMEM;
+    void *found;
+
+    if (align < sizeof(void *) || align & (align - 1))
+        return EINVAL;
+    found = aligned(align, size, POSIX_MEMALIGN, RVMC_BEHIND);
+    if (found)
+        *place = found;
+    return found ? 0 : ENOMEM;
 }
 
 void rvmc_heap_at_the_end(unsigned behind)

@@ -61,8 +61,13 @@ void *rvmc_checked_memchr(const void *at, int byte, size_t size)
     return found;
 }
 
+/* strlen itself traps at a null pointer, which the compiler isn't to know here. */
 size_t rvmc_checked_strlen(const char *text)
 {
+    const char *volatile at = text;
+
+    if (!text)
+        return strlen(at);
     READS_TEXT("strlen", text);
     return length_of(text);
 }
@@ -130,7 +135,15 @@ char *rvmc_checked_strstr(const char *text, const char *part)
 char *rvmc_checked_strdup(const char *text)
 {
     READS_TEXT("strdup", text);
-    return rvmc_told ? 0 : rvmc_heap_copy(text, RVMC_BEHIND);
+    return rvmc_told ? 0 : rvmc_heap_copy(text, length_of(text), 0, RVMC_BEHIND);
+}
+
+char *rvmc_checked_strndup(const char *text, size_t most)
+{
+    size_t length = length_within(text, most);
+
+    READS("strndup", text, length < most ? length + 1 : most);
+    return rvmc_told ? 0 : rvmc_heap_copy(text, length, 1, RVMC_BEHIND);
 }
 
 char *rvmc_checked_fgets(char *to, int size, FILE *file)

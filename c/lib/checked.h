@@ -4,6 +4,7 @@
 #ifndef RVMC_CHECKED_H
 #define RVMC_CHECKED_H
 
+#include <stddef.h>
 #include "../mpi.h"
 #include "check.h"
 #include "places.h"
@@ -72,7 +73,7 @@ void *rvmc_check_take(long size);
 void rvmc_check_give_back(void *memory);
 void rvmc_heap_at_the_end(unsigned behind);
 int rvmc_heap_has(long word, const void *but);
-char *rvmc_heap_copy(const char *text, unsigned behind);
+char *rvmc_heap_copy(const char *text, size_t length, int is_part, unsigned behind);
 
 /* Looks at memory that a call reads or writes. */
 void rvmc_check_range(const char *call, unsigned behind, const void *at, long size, int is_written);

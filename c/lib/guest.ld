@@ -67,6 +67,7 @@ SECTIONS
         . = . + rvmc_harts * rvmc_locals_size;
         rvmc_pages = .;
         . = . + rvmc_harts * (4096 + 4096 + 8 + 16);
+        . = ALIGN(16);
     } :data
     __heap_start = .;
     __heap_end = rvmc_memory;

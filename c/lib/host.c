@@ -7,6 +7,7 @@
 #include <unistd.h>
 #include "../mpi.h"
 #include "errors.h"
+#include "heap.h"
 #include "places.h"
 #include "system.h"
 
@@ -34,6 +35,8 @@ int MPI_Alloc_mem(MPI_Aint size, MPI_Info info, void *place)
     *(void **)place = found;
     if (found)
         return MPI_SUCCESS;
+    if (size > 0)
+        rvmc_tell_no_room("MPI_Alloc_mem", 1, (size_t)size, 0, __builtin_return_address(0));
     return rvmc_trapped(rvmc_raise("MPI_Alloc_mem", MPI_COMM_WORLD, MPI_ERR_NO_MEM, "size",
                                    "the heap has no room for %d bytes", (long)size));
 }
