@@ -16,15 +16,14 @@ def pointed(memory, pointer):
 
 def own(image, hart, memory):
     """The frame of the function that a hart is in."""
-    if not ways.keeps_pointer(image, memory, hart.pc):
-        if hart.pc + 4 > memory.text:
-            frame = ways.end(memory, hart.regs)
-        else:
-            frame = ways.out(memory, hart.regs, hart.pc)
+    keeps = ways.kept_pointer(image, memory, hart.pc)
+    if keeps == ways.WITHOUT:
+        is_text = hart.pc + 4 <= memory.text
+        frame = ways.out(memory, hart.regs, hart.pc) if is_text else ways.end(memory, hart.regs)
         if frame:
             return frame
     frame = pointed(memory, hart.regs[ways.S0])
-    if frame and frame[1] > frame[0]:
+    if frame and (keeps == ways.LEAF or (keeps == ways.UNKNOWN and frame[1] > frame[0])):
         # a function that calls none keeps its return address in its register
         return frame[0], hart.regs[ways.RA], frame[1]
     return frame
@@ -34,7 +33,7 @@ def above(image, memory, frame):
     """The frame of the caller."""
     end, back, s0 = frame
     found = None
-    if not ways.keeps_pointer(image, memory, max(back - 4, 0)):
+    if ways.kept_pointer(image, memory, max(back - 4, 0)) == ways.WITHOUT:
         regs = [0] * 32
         regs[ways.RA], regs[ways.SP], regs[ways.S0] = back, end, s0
         found = ways.out(memory, regs, back)

@@ -40,27 +40,34 @@ def word_at(memory, at):
     return None if machine.listed(number).startswith(".word") else machine.word_of(number)
 
 
-def keeps_pointer(image, memory, at):
+# whether a function keeps a frame pointer: that isn't known of one without a label; it does, and its return address is below
+# it; it does, and its return address is in ra; it doesn't
+UNKNOWN, STORED, LEAF, WITHOUT = "unknown", "stored", "leaf", "without"
+
+
+def kept_pointer(image, memory, at):
     """Whether s0 is the frame pointer of the function of a place."""
     label = places.near(image, at)[1]
     if not label:
-        return True
+        return UNKNOWN
     if at + 4 > memory.text:
-        return False
-    stored, is_own, is_restored = None, False, False
+        return WITHOUT
+    stored, keeps, is_restored = None, WITHOUT, False
     for place in range(label[0], at - 3, 4):
         word = word_at(memory, place)
         if not word:
             continue
-        if not is_own and pushes(word, S0):
-            stored = word.s
-        elif not is_own and (word.opcode, word.funct3, word.rd, word.rs1) == (ADDI, 0, S0, SP):
-            is_own = stored is not None and word.i % machine.WORD - stored % machine.WORD in (8, 16)
-        elif is_own and not is_restored:
+        if keeps == WITHOUT and pushes(word, S0):
+            stored = word.s % machine.WORD
+        elif keeps == WITHOUT and (word.opcode, word.funct3, word.rd, word.rs1) == (ADDI, 0, S0, SP):
+            # the address behind the frame is the one behind the return address, or behind s0 where there is none
+            above = None if stored is None else word.i % machine.WORD - stored
+            keeps = {16: STORED, 8: LEAF}.get(above, WITHOUT)
+        elif keeps != WITHOUT and not is_restored:
             is_restored = pops(word, S0)
         elif is_restored and word.rd == 0 and word.opcode in (JAL, JALR):
             is_restored = False
-    return is_own and not is_restored
+    return WITHOUT if is_restored else keeps
 
 
 class Lost(Exception):

@@ -8,9 +8,11 @@ use Rattle.rv_hart.specs.declared.state.Mode.TheVariants.{Running}
 use Rattle.rv_image_types.specs.declared.images.Symbol.{Symbol}
 use Rattle.rv_memory.specs.Access.{word_at}
 use Rattle.rv_memory.specs.Memory.{Memory, value_at}
-use Rattle.rvmc_places.specs.Pointers.{is_text, keeps_pointer}
+use Rattle.rvmc_places.specs.Pointers.{is_text, kept_pointer}
 use Rattle.rvmc_places.specs.Ways.{called_at, led, way_out}
 use Rattle.rvmc_places.specs.declared.frames.Frame.{Frame}
+use Rattle.rvmc_places.specs.declared.pointers.Keeps.{Keeps}
+use Rattle.rvmc_places.specs.declared.pointers.Keeps.TheVariants.{Leaf, Stored, Unknown, Without}
 
 -- ---- by frame pointers
 
@@ -32,16 +34,13 @@ frame_at memory pointer =
     }) else None
 
 -- a function that calls no other needn't keep its return address, x1, in memory: gcc has the caller's frame pointer there
--- then, which is higher than its own
-abbrev pub of_leaf : State → Frame → Frame
-of_leaf hart frame =
-    if nat_lt frame.pointer frame.back
-    then record { pointer = frame.pointer; back = read hart 1; above = frame.back }
-    else frame
+-- then
+abbrev pub leaf_frame : State → Frame → Frame
+leaf_frame hart frame = record { pointer = frame.pointer; back = read hart 1; above = frame.back }
 
--- the frame of the function that a hart is in, by s0, which is x8
-abbrev pub pointed_frame : Memory → State → Option Frame
-pointed_frame memory hart = option_map (of_leaf hart) (frame_at memory (read hart 8))
+-- which is higher than its own, where its caller keeps one
+abbrev pub of_leaf : State → Frame → Frame
+of_leaf hart frame = if nat_lt frame.pointer frame.back then leaf_frame hart frame else frame
 
 -- ---- by ways out
 
@@ -56,23 +55,25 @@ returned frame = write (write (write (fresh frame.back) 1 frame.back) 2 frame.po
 
 -- ---- chains
 
--- where none is found by ways out, the frame pointer has to do
-abbrev pub own_frame_by : Bool → Memory → State → Option Frame
-own_frame_by true memory hart = pointed_frame memory hart
-own_frame_by false memory hart =
-    option_or (way_of memory hart (is_text (word_at memory hart.pc))) (pointed_frame memory hart)
+-- where none is found by ways out, the frame pointer, s0, which is x8, has to do
+abbrev pub own_frame_by : Keeps → Memory → State → Option Frame
+own_frame_by Stored memory hart = frame_at memory (read hart 8)
+own_frame_by Leaf memory hart = option_map (leaf_frame hart) (frame_at memory (read hart 8))
+own_frame_by Unknown memory hart = option_map (of_leaf hart) (frame_at memory (read hart 8))
+own_frame_by Without memory hart =
+    option_or (way_of memory hart (is_text (word_at memory hart.pc))) (frame_at memory (read hart 8))
 
 -- the frame of the function that a hart is in, whatever its mode
 abbrev pub own_frame : List Symbol → Memory → State → Option Frame
-own_frame symbols memory hart = own_frame_by (keeps_pointer symbols memory hart.pc) memory (in_mode hart Running)
+own_frame symbols memory hart = own_frame_by (kept_pointer symbols memory hart.pc) memory (in_mode hart Running)
 
-abbrev pub caller_frame_by : Bool → Memory → Frame → Option Frame
-caller_frame_by true memory frame = frame_at memory frame.above
-caller_frame_by false memory frame = option_or (way_out memory (returned frame)) (frame_at memory frame.above)
+abbrev pub caller_frame_by : Keeps → Memory → Frame → Option Frame
+caller_frame_by Without memory frame = option_or (way_out memory (returned frame)) (frame_at memory frame.above)
+caller_frame_by keeps memory frame = frame_at memory frame.above
 
 -- that of the caller
 abbrev pub caller_frame : List Symbol → Memory → Frame → Option Frame
-caller_frame symbols memory frame = caller_frame_by (keeps_pointer symbols memory (called_at frame)) memory frame
+caller_frame symbols memory frame = caller_frame_by (kept_pointer symbols memory (called_at frame)) memory frame
 
 -- which is higher: the stack grows down
 abbrev pub risen : Frame → Option Frame → Option Frame

@@ -1,5 +1,5 @@
 -- Worked frames of functions that keep no frame pointer, of a text as gcc and libgcc write it.
-use Rattle.std.specs.Prelude.{◌≡◌, ℕ, Bool, true, false, List, [], ◌∷◌, ◌++◌, codes, refl}
+use Rattle.std.specs.Prelude.{◌≡◌, ℕ, true, None, List, [], ◌∷◌, ◌++◌, codes, refl}
 use Rattle.std.specs.List.{flat_map}
 use Rattle.rv_decode.specs.Decoded.{decoded}
 use Rattle.rv_hart.specs.State.{State, fresh, write}
@@ -8,9 +8,12 @@ use Rattle.rv_memory.specs.Memory.{Memory, bytes_of}
 use Rattle.rvmc_places.specs.Frames.{frames}
 use Rattle.rvmc_places.specs.Names.{line_named}
 use Rattle.rvmc_places.specs.Places.{nearest_of}
-use Rattle.rvmc_places.specs.Pointers.{keeps_pointer}
+use Rattle.rvmc_places.specs.Pointers.{kept_pointer, pointer_behind}
 use Rattle.rvmc_places.specs.Ways.{advanced, way, way_out}
 use Rattle.rvmc_places.specs.declared.frames.Frame.{Frame}
+use Rattle.rvmc_places.specs.declared.pointers.Keeps.{Keeps}
+use Rattle.rvmc_places.specs.declared.pointers.Keeps.TheVariants.{Stored, Without}
+use Rattle.rvmc_places.specs.declared.pointers.Pointer.TheVariants.{Callers, Own}
 
 -- words of instructions
 abbrev words : List ℕ → List ℕ
@@ -145,29 +148,34 @@ not_behind_a_call = refl
 
 -- whether s0 is the frame pointer: in main it is from behind `addi s0, sp, 16` to `ld s0, 0(sp)`; in puts it is another
 -- address
-abbrev Keeps : ℕ → Bool → Type 0
-Keeps at keeps = keeps_pointer symbols (memory_of full) at ≡ keeps
+abbrev HasPointer : ℕ → Keeps → Type 0
+HasPointer at keeps = kept_pointer symbols (memory_of full) at ≡ keeps
 
-pub too_early_in_main : Keeps 0x0c false
+pub too_early_in_main : HasPointer 0x0c Without
 unfolding nearest_of line_named decoded
 too_early_in_main = refl
 
-pub in_main : Keeps 0x10 true
+pub in_main : HasPointer 0x10 Stored
 unfolding nearest_of line_named decoded
 in_main = refl
 
-pub at_the_end_of_main : Keeps 0x18 true
+pub at_the_end_of_main : HasPointer 0x18 Stored
 unfolding nearest_of line_named decoded
 at_the_end_of_main = refl
 
-pub too_late_in_main : Keeps 0x1c false
+pub too_late_in_main : HasPointer 0x1c Without
 unfolding nearest_of line_named decoded
 too_late_in_main = refl
 
-pub in_puts : Keeps 0x2c false
+pub in_puts : HasPointer 0x2c Without
 unfolding nearest_of line_named decoded
 in_puts = refl
 
-pub behind_the_text : Keeps 144 false
+pub behind_the_text : HasPointer 144 Without
 unfolding nearest_of line_named decoded
 behind_the_text = refl
+
+-- behind `sd s0, 8(sp)    addi s0, sp, 16` no return address is stored
+pub a_leaf : pointer_behind (decoded 0x01010413) (pointer_behind (decoded 0x00813423) (Callers None)) ≡ Own true
+unfolding decoded
+a_leaf = refl

@@ -1,12 +1,12 @@
 //! The frames of the functions that a hart is in: by frame pointers, or by the way out of those that keep none.
 
 ghost use Rattle.std.specs.Prelude.{◌≡◌};
-ghost use Rattle.rvmc_places.specs.Frames.{caller_frame, frame_above, frame_at, of_leaf, own_frame, own_frame_by, pointed_frame};
-ghost use Rattle.rvmc_places.specs.Frames.{returned, risen, way_of};
+ghost use Rattle.rvmc_places.specs.Frames.{caller_frame, frame_above, frame_at, leaf_frame, of_leaf, own_frame};
+ghost use Rattle.rvmc_places.specs.Frames.{own_frame_by, returned, risen, way_of};
 ghost use Rattle.rvmc_places.specs.Pointers.{is_text};
 ghost use Rattle.rv_memory.specs.Access.{word_at};
 
-use crate::pointers::keeps_pointer;
+use crate::pointers::{Keeps, kept_pointer};
 use crate::ways::{called_at, led, way_out};
 use rv_decode::Reg;
 use rv_hart::{Hart, Mode};
@@ -39,14 +39,11 @@ fn frame_at(memory: &RankMemory, pointer: u64) -> Option<Frame>
     })
 }
 
-/// The frame of a function that may call no other: its return address is in x1 alone then, and the caller's frame pointer
-/// in the place of it.
-fn of_leaf(hart: &Hart, frame: Frame) -> Frame
-    ensures { result ≡ of_leaf hart.now frame }
+/// The frame of a function that calls no other: its return address is in x1 alone, and the caller's frame pointer in the
+/// place of it.
+fn leaf_frame(hart: &Hart, frame: Frame) -> Frame
+    ensures { result ≡ leaf_frame hart.now frame }
 {
-    if frame.back <= frame.pointer {
-        return frame;
-    }
     Frame {
         pointer: frame.pointer,
         back: hart.get(Reg::new(1)),
@@ -54,12 +51,14 @@ fn of_leaf(hart: &Hart, frame: Frame) -> Frame
     }
 }
 
-/// The frame of the function that the hart is in, by its frame pointer.
-fn pointed_frame(memory: &RankMemory, hart: &Hart) -> Option<Frame>
-    ensures { result ≡ pointed_frame memory.now hart.now }
+/// The frame of a function that may call no other.
+fn of_leaf(hart: &Hart, frame: Frame) -> Frame
+    ensures { result ≡ of_leaf hart.now frame }
 {
-    let frame = frame_at(memory, hart.get(Reg::new(8)))?;
-    Some(of_leaf(hart, frame))
+    if frame.back <= frame.pointer {
+        return frame;
+    }
+    leaf_frame(hart, frame)
 }
 
 /// The hart when the function of a frame has returned, as far as it is known.
@@ -77,7 +76,7 @@ fn returned(frame: Frame) -> Hart
 fn caller_frame(symbols: &[Symbol], memory: &RankMemory, frame: Frame) -> Option<Frame>
     ensures { result ≡ caller_frame symbols.now memory.now frame }
 {
-    if !keeps_pointer(symbols, memory, called_at(frame)) {
+    if let Keeps::Without = kept_pointer(symbols, memory, called_at(frame)) {
         let found = way_out(memory, &returned(frame));
         if found.is_some() {
             return found;
@@ -114,24 +113,30 @@ fn way_of(memory: &RankMemory, hart: &Hart) -> Option<Frame>
     way_out(memory, hart)
 }
 
-/// The frame of the function that a running hart is in, if it keeps a frame pointer, or else.
-fn own_frame_by(keeps: bool, memory: &RankMemory, hart: &Hart) -> Option<Frame>
+/// The frame of the function that a running hart is in, by whether it keeps a frame pointer.
+fn own_frame_by(keeps: Keeps, memory: &RankMemory, hart: &Hart) -> Option<Frame>
     ensures { result ≡ own_frame_by keeps memory.now hart.now }
 {
-    if !keeps {
-        let found = way_of(memory, hart);
-        if found.is_some() {
-            return found;
+    let pointed = frame_at(memory, hart.get(Reg::new(8)));
+    match keeps {
+        Keeps::Stored => pointed,
+        Keeps::Leaf => Some(leaf_frame(hart, pointed?)),
+        Keeps::Unknown => Some(of_leaf(hart, pointed?)),
+        Keeps::Without => {
+            let found = way_of(memory, hart);
+            if found.is_some() {
+                return found;
+            }
+            pointed
         }
     }
-    pointed_frame(memory, hart)
 }
 
 /// The frame of the function that the hart is in, whatever its mode: by its frame pointer, or by a way out of it.
 pub fn own_frame(symbols: &[Symbol], memory: &RankMemory, hart: &Hart) -> Option<Frame>
     ensures { result ≡ own_frame symbols.now memory.now hart.now }
 {
-    let keeps = keeps_pointer(symbols, memory, hart.pc());
+    let keeps = kept_pointer(symbols, memory, hart.pc());
     let mut running = *hart;
     running.set_mode(Mode::Running);
     own_frame_by(keeps, memory, &running)

@@ -23,5 +23,6 @@ pub use laws::one_line_law;
 pub use names::{SourceLine, line_named};
 pub use near::{line_at, nearest_label};
 pub use own_calls::{is_in_library, put_made, put_own_place};
+pub use pointers::Keeps;
 pub use starts::{line_start, line_starts};
 pub use texts::{put_name, put_place};

@@ -9,10 +9,12 @@ use Rattle.rv_hart.specs.State.{State}
 use Rattle.rv_image_types.specs.declared.images.Symbol.{Symbol}
 use Rattle.rv_memory.specs.Memory.{Memory}
 use Rattle.rvmc_places.specs.Frames.{caller_frame, caller_frame_by, frame_above, frame_at, frames, frames_from, own_frame, returned, risen}
-use Rattle.rvmc_places.specs.Pointers.{keeps_pointer}
+use Rattle.rvmc_places.specs.Pointers.{kept_pointer}
 use Rattle.rvmc_places.specs.Ways.{called_at, way, way_among, way_out}
 use Rattle.rvmc_tool_laws.specs.Frames.{FramesRiseLaw, HeldFramesLaw, IsCallers}
 use Rattle.rvmc_places.specs.declared.frames.Frame.{Frame}
+use Rattle.rvmc_places.specs.declared.pointers.Keeps.{Keeps}
+use Rattle.rvmc_places.specs.declared.pointers.Keeps.TheVariants.{Leaf, Stored, Unknown, Without}
 
 -- the caller's frame is higher
 above : (symbols : List Symbol) (memory : Memory) (frame next : Frame) → frame_above symbols memory frame ≡ Some next
@@ -63,16 +65,18 @@ no_way memory hart (suc left) None is =
         others number below (omega (arith, below, from, eqb-false number (255 - left) other))
 
 -- the caller's frame is one of its ways', or by its frame pointer
-callers : (symbols : List Symbol) (memory : Memory) (frame next : Frame) (b : Bool)
-    → caller_frame_by b memory frame ≡ Some next → IsCallers b memory frame next
+callers : (symbols : List Symbol) (memory : Memory) (frame next : Frame) (keeps : Keeps)
+    → caller_frame_by keeps memory frame ≡ Some next → IsCallers keeps memory frame next
 unfolding way_out
-callers symbols memory frame next true is = is
-callers symbols memory frame next false is = by (way_out memory (returned frame)) refl
+callers symbols memory frame next Unknown is = is
+callers symbols memory frame next Stored is = is
+callers symbols memory frame next Leaf is = is
+callers symbols memory frame next Without is = by (way_out memory (returned frame)) refl
   where
-    by : (o : Option Frame) → way_out memory (returned frame) ≡ o → IsCallers false memory frame next
+    by : (o : Option Frame) → way_out memory (returned frame) ≡ o → IsCallers Without memory frame next
     by (Some found) e =
         let same : Some found ≡ Some next = sym (ap (λ o. option_or o (frame_at memory frame.above)) e) ∙ is in
-        elim (some_way memory (returned frame) 256 None next (e ∙ same)) as (λ _. IsCallers false memory frame next) [
+        elim (some_way memory (returned frame) 256 None next (e ∙ same)) as (λ _. IsCallers Without memory frame next) [
           | inl none ↦ absurd (none-some next none)
           | inr found ↦ inl found
         ]
@@ -111,7 +115,7 @@ one_more k = omega arith
 pub held : HeldFramesLaw
 held symbols memory hart k frame next this that =
     let there = ap (slice_get (frames symbols memory hart)) (sym (one_more k)) ∙ that in
-    callers symbols memory frame next (keeps_pointer symbols memory (called_at frame))
+    callers symbols memory frame next (kept_pointer symbols memory (called_at frame))
     (above symbols memory frame next (next_is symbols memory 64 (own_frame symbols memory hart) k frame next this there)).1
 
 -- an element at each number below the length
