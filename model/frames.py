@@ -1,32 +1,58 @@
 """The calls that led to where a hart is, as docs/DEBUGGING.md ("Inside a library") tells them."""
 
 import places
+import ways
 
-# the calls that are told of a hart, and the registers of the return address and of the frame pointer
-MOST, RA, S0 = 64, 1, 8
-
-
-def word(memory, at):
-    """The 8 bytes at an address, the low one first."""
-    return int.from_bytes(memory.read(at, 8), "little")
+# the calls that are told of a hart
+MOST = 64
 
 
-def callers(hart, memory):
+def pointed(memory, pointer):
+    """The frame that ends here: its end, the return address and the caller's frame pointer. Else nothing."""
+    if pointer % 8 or pointer < 16 or not memory.can_read(pointer - 16, 16):
+        return None
+    return pointer, memory.word(pointer - 8), memory.word(pointer - 16)
+
+
+def own(image, hart, memory):
+    """The frame of the function that a hart is in."""
+    keeps = ways.kept_pointer(image, memory, hart.pc)
+    if keeps == ways.WITHOUT:
+        is_text = hart.pc + 4 <= memory.text
+        frame = ways.out(memory, hart.regs, hart.pc) if is_text else ways.end(memory, hart.regs)
+        if frame:
+            return frame
+    frame = pointed(memory, hart.regs[ways.S0])
+    if frame and (keeps == ways.LEAF or (keeps == ways.UNKNOWN and frame[1] > frame[0])):
+        # a function that calls none keeps its return address in its register
+        return frame[0], hart.regs[ways.RA], frame[1]
+    return frame
+
+
+def above(image, memory, frame):
+    """The frame of the caller."""
+    end, back, s0 = frame
+    found = None
+    if ways.kept_pointer(image, memory, max(back - 4, 0)) == ways.WITHOUT:
+        regs = [0] * 32
+        regs[ways.RA], regs[ways.SP], regs[ways.S0] = back, end, s0
+        found = ways.out(memory, regs, back)
+    found = found or pointed(memory, s0)
+    return found if found and found[0] > end else None
+
+
+def callers(image, hart, memory):
     """Where the functions were called that a hart is in, the innermost first."""
-    found, pointer, last = [], hart.regs[S0], 0
-    while len(found) < MOST and pointer > last and pointer % 8 == 0 and pointer >= 16 and memory.can_read(pointer - 16, 16):
-        back, above = word(memory, pointer - 8), word(memory, pointer - 16)
-        if not found and back > pointer:
-            # a function that calls none keeps its return address in its register
-            back, above = hart.regs[RA], back
-        found.append(max(back - 4, 0))
-        pointer, last = above, pointer
+    found, frame = [], own(image, hart, memory)
+    while len(found) < MOST and frame:
+        found.append(max(frame[1] - 4, 0))
+        frame = above(image, memory, frame)
     return found
 
 
 def calls(image, hart, memory):
     """The calls as text, each for itself."""
-    return [f"called from {places.name(image, at)}" for at in callers(hart, memory)]
+    return [f"called from {places.name(image, at)}" for at in callers(image, hart, memory)]
 
 
 def own_call(image, hart, memory):
@@ -34,7 +60,7 @@ def own_call(image, hart, memory):
     inner = hart.pc
     if places.has_line(image, inner):
         return None
-    for at in callers(hart, memory):
+    for at in callers(image, hart, memory):
         if places.has_line(image, at):
             return at, inner
         inner = at

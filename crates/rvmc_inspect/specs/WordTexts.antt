@@ -32,7 +32,7 @@ regs_text rank number hart = hart_text rank number hart ++ registers_text hart
 -- the hart's line of the report, and a line for each call that led to where it is, as `called from 0xdc (life.c.41)`
 abbrev pub frames_text : List Symbol → ℕ → ℕ → Memory → State → List ℕ
 frames_text symbols rank number memory hart =
-    hart_text rank number hart ++ calls_text (codes "called from ") newline symbols (frames memory hart)
+    hart_text rank number hart ++ calls_text (codes "called from ") newline symbols (frames symbols memory hart)
 
 -- a line of bytes: two digits each, one space between
 abbrev pub bytes_line : List ℕ → List ℕ

@@ -3,29 +3,30 @@ use Rattle.std.proofs.Common.{ℕ, zero, suc, ◌≡◌, ◌∙◌, ◌+◌, ◌
 use Rattle.std.specs.Prelude.{Option, Some, None}
 use Rattle.rv_image_types.specs.declared.images.Symbol.{Symbol}
 use Rattle.rv_memory.specs.Memory.{Memory}
-use Rattle.rvmc_places.specs.Callers.{called_at, call_place, calls_text}
+use Rattle.rvmc_places.specs.Callers.{call_place, calls_text}
 use Rattle.rvmc_places.specs.Frames.{frame_above, frames_from}
+use Rattle.rvmc_places.specs.Ways.{called_at}
 use Rattle.rvmc_places.specs.declared.frames.Frame.{Frame}
 
 -- no frame, and none above it
-frames_none : (memory : Memory) (most : ℕ) → frames_from memory most None ≡ []
-frames_none memory zero = refl
-frames_none memory (suc most) = refl
+frames_none : (symbols : List Symbol) (memory : Memory) (most : ℕ) → frames_from symbols memory most None ≡ []
+frames_none symbols memory zero = refl
+frames_none symbols memory (suc most) = refl
 
 -- where there are no more
-pub none_left : (memory : Memory) (n : ℕ) (next : Option Frame) → next ≡ None → frames_from memory (64 - n) next ≡ []
-none_left memory n next is = ap (frames_from memory (64 - n)) is ∙ frames_none memory (64 - n)
+pub none_left : (symbols : List Symbol) (memory : Memory) (n : ℕ) (next : Option Frame) → next ≡ None → frames_from symbols memory (64 - n) next ≡ []
+none_left symbols memory n next is = ap (frames_from symbols memory (64 - n)) is ∙ frames_none symbols memory (64 - n)
 
-pub all_told : (memory : Memory) (n : ℕ) (next : Option Frame) → 64 ≤ n → frames_from memory (64 - n) next ≡ []
-all_told memory n next end = let none : 64 - n ≡ 0 = omega (arith, end) in ap (λ most. frames_from memory most next) none
+pub all_told : (symbols : List Symbol) (memory : Memory) (n : ℕ) (next : Option Frame) → 64 ≤ n → frames_from symbols memory (64 - n) next ≡ []
+all_told symbols memory n next end = let none : 64 - n ≡ 0 = omega (arith, end) in ap (λ most. frames_from symbols memory most next) none
 
 -- and where there is one
-pub one_left : (memory : Memory) (n : ℕ) (next above : Option Frame) (frame : Frame) → n < 64 → next ≡ Some frame → above ≡ frame_above memory frame
-    → frames_from memory (64 - n) next ≡ frame ∷ frames_from memory (64 - (n + 1)) above
-one_left memory n next above frame less is higher =
+pub one_left : (symbols : List Symbol) (memory : Memory) (n : ℕ) (next above : Option Frame) (frame : Frame) → n < 64 → next ≡ Some frame → above ≡ frame_above symbols memory frame
+    → frames_from symbols memory (64 - n) next ≡ frame ∷ frames_from symbols memory (64 - (n + 1)) above
+one_left symbols memory n next above frame less is higher =
     let more : 64 - n ≡ suc (64 - (n + 1)) = omega (arith, less) in
-    ap (frames_from memory (64 - n)) is ∙ ap (λ most. frames_from memory most (Some frame)) more
-    ∙ ap (λ o. frame ∷ frames_from memory (64 - (n + 1)) o) (sym higher)
+    ap (frames_from symbols memory (64 - n)) is ∙ ap (λ most. frames_from symbols memory most (Some frame)) more
+    ∙ ap (λ o. frame ∷ frames_from symbols memory (64 - (n + 1)) o) (sym higher)
 
 -- their calls
 module _ (before behind : List ℕ) (symbols : List Symbol) (old text : List ℕ) (whole left : List Frame)

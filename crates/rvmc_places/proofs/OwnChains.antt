@@ -2,7 +2,7 @@
 use Rattle.std.proofs.Common.{ℕ, ◌≡◌, ◌∙◌, Bool, true, false, cond, List, [], ◌∷◌, ap, sym}
 use Rattle.std.specs.Prelude.{Option, Some, None}
 use Rattle.rv_image_types.specs.declared.images.Symbol.{Symbol}
-use Rattle.rvmc_places.specs.Callers.{called_at}
+use Rattle.rvmc_places.specs.Ways.{called_at}
 use Rattle.rvmc_places.specs.OwnCalls.{has_line, own_call_from}
 use Rattle.rvmc_places.specs.declared.frames.Frame.{Frame}
 use Rattle.rvmc_places.specs.declared.own_calls.OwnCall.{OwnCall}

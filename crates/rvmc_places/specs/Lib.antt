@@ -3,8 +3,11 @@ pub mod Read
 pub mod Places
 pub mod Laws
 pub mod Worked
+pub mod Ways
+pub mod Pointers
 pub mod Frames
 pub mod WorkedFrames
+pub mod WorkedWays
 pub mod Callers
 pub mod OwnCalls
 pub mod WorkedCalls

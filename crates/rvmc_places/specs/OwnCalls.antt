@@ -5,8 +5,8 @@ use Rattle.rv_image_types.specs.declared.images.Symbol.{Symbol}
 use Rattle.rv_memory.specs.Memory.{Memory}
 use Rattle.rvmc_places.specs.Places.{is_some_line, line_at, named_address_text, nearest_of, place_name}
 use Rattle.rvmc_places.specs.declared.near.Kind.TheVariants as kind
-use Rattle.rvmc_places.specs.Callers.{called_at}
 use Rattle.rvmc_places.specs.Frames.{frames}
+use Rattle.rvmc_places.specs.Ways.{called_at}
 use Rattle.rvmc_places.specs.declared.frames.Frame.{Frame}
 use Rattle.rvmc_places.specs.declared.own_calls.OwnCall.{OwnCall}
 
@@ -25,7 +25,7 @@ own_call_from symbols inner (frame ∷ chain) =
 -- of a hart, unless it is in the program itself
 unfoldable pub own_call : List Symbol → Memory → State → Option OwnCall
 own_call symbols memory hart =
-    if has_line symbols hart.pc then None else own_call_from symbols hart.pc (frames memory hart)
+    if has_line symbols hart.pc then None else own_call_from symbols hart.pc (frames symbols memory hart)
 
 -- whether a hart is in the library, and the program's own call that led there is known
 abbrev pub is_some_call : Option OwnCall → Bool

@@ -1,11 +1,13 @@
 //! The calls that led to where a hart is, as text.
 
 ghost use Rattle.std.specs.Prelude.{◌≡◌, ◌++◌, OnOk};
-ghost use Rattle.rvmc_places.specs.Callers.{called_at, call_place, callers_text, calls_text};
+ghost use Rattle.rvmc_places.specs.Callers.{call_place, callers_text, calls_text};
 ghost use Rattle.rvmc_places.specs.Frames.{frames};
+ghost use Rattle.rvmc_places.specs.Ways.{called_at};
 
 use crate::frames::{Frame, frame_above, own_frame};
 use crate::texts::put_name;
+use crate::ways::called_at;
 use rv_hart::Hart;
 use rv_image_types::Symbol;
 use rv_memory::RankMemory;
@@ -13,13 +15,6 @@ use std::alloc::AllocError;
 
 /// The most calls that are told of a hart.
 pub(crate) const MOST: usize = 64;
-
-/// Where the function of a frame was called.
-pub(crate) fn called_at(frame: Frame) -> u64
-    ensures { result ≡ called_at frame }
-{
-    frame.back.saturating_sub(4)
-}
 
 /// Adds a call, between two texts.
 fn put_call(
@@ -49,15 +44,15 @@ pub fn put_calls(
 ) -> Result<(), AllocError>
     ensures { OnOk result
         (text.new.items
-        ≡ text.old.items ++ calls_text before.now behind.now symbols.now (frames memory.now hart.now)) }
+        ≡ text.old.items ++ calls_text before.now behind.now symbols.now (frames symbols.now memory.now hart.now)) }
 {
-    let mut next = own_frame(memory, hart);
+    let mut next = own_frame(symbols, memory, hart);
     for _number in 0..MOST {
         match next {
             None => return Ok(()),
             Some(frame) => {
                 put_call(text, symbols, frame, before, behind)?;
-                next = frame_above(memory, frame);
+                next = frame_above(symbols, memory, frame);
             }
         }
     }

@@ -11,8 +11,10 @@ mod laws;
 mod names;
 mod near;
 mod own_calls;
+mod pointers;
 mod starts;
 mod texts;
+mod ways;
 
 pub use callers::{put_callers, put_calls};
 pub use causes::{has_overflowed, put_trap, put_trapped};
@@ -21,5 +23,6 @@ pub use laws::one_line_law;
 pub use names::{SourceLine, line_named};
 pub use near::{line_at, nearest_label};
 pub use own_calls::{is_in_library, put_made, put_own_place};
+pub use pointers::Keeps;
 pub use starts::{line_start, line_starts};
 pub use texts::{put_name, put_place};

@@ -6,10 +6,11 @@ ghost use Rattle.rvmc_places.specs.OwnCalls.{has_line, inner_text, is_in_library
 ghost use Rattle.rvmc_places.specs.OwnCalls.{own_call_from, own_call_text, own_place_text};
 ghost use Rattle.rvmc_places.specs.Frames.{frames};
 
-use crate::callers::{MOST, called_at};
+use crate::callers::MOST;
 use crate::frames::{frame_above, own_frame};
 use crate::near::{line_at, nearest_label};
 use crate::texts::{put_name, put_place};
+use crate::ways::called_at;
 use rv_hart::Hart;
 use rv_image_types::Symbol;
 use rv_memory::RankMemory;
@@ -33,10 +34,10 @@ fn has_line(symbols: &[Symbol], at: u64) -> bool
 
 /// The innermost call by the program itself, above a place in the library.
 fn own_call_above(symbols: &[Symbol], memory: &RankMemory, hart: &Hart) -> Option<OwnCall>
-    ensures { result ≡ own_call_from symbols.now hart.now.pc (frames memory.now hart.now) }
+    ensures { result ≡ own_call_from symbols.now hart.now.pc (frames symbols.now memory.now hart.now) }
 {
     let mut inner = hart.pc();
-    let mut next = own_frame(memory, hart);
+    let mut next = own_frame(symbols, memory, hart);
     for _number in 0..MOST {
         match next {
             None => return None,
@@ -46,7 +47,7 @@ fn own_call_above(symbols: &[Symbol], memory: &RankMemory, hart: &Hart) -> Optio
                     return Some(OwnCall { at, inner });
                 }
                 inner = at;
-                next = frame_above(memory, frame);
+                next = frame_above(symbols, memory, frame);
             }
         }
     }
