@@ -1,6 +1,6 @@
 /* null.h: what the functions of the C library that look at their pointers do with a null pointer: a line that names the
    function, and a trap, with all registers as they were at the call (traps.S). */
-        # Its name stands behind the trap, where rvmc_null_text finds it.
+        # Its name stands behind the trap, where rvmc_null_text finds it, and a return, by which debuggers find the caller.
         .macro is_null name
         jal gp, rvmc_null_text
         .option push
@@ -8,6 +8,7 @@
         la gp, __global_pointer$
         .option pop
         ebreak
+        ret
 .Lname_\name:
         .asciz "\name"
         .zero -(. - .Lname_\name) & 3          # .balign 4 does nothing where instructions have 4 bytes

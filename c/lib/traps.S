@@ -75,7 +75,7 @@
         # Called by readers.S, where the name of the function stands behind the trap.
         tells rvmc_null_text, "a null pointer is given to "
         ld a1, 8(sp)
-        addi a1, a1, 12
+        addi a1, a1, 16
         call rvmc_tell
         tail rvmc_bring_back
         ends rvmc_null_text

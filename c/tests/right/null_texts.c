@@ -77,7 +77,7 @@ static int printed(int which, char *room)
     case 4: return snprintf(room, 8, none);
     case 5: return sscanf(none, "%d", &which);
     case 6: return fopen(none, "r") != NULL;
-    default: return fprintf(fopen("missing", "w"), "lost\n");
+    default: return fprintf(fopen("missing", "r"), "lost\n");
     }
 }
 
