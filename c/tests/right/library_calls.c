@@ -36,7 +36,8 @@ int main(int argc, char **argv)
 
     double all;
     MPI_Allreduce(&read, &all, 1, MPI_DOUBLE, MPI_SUM, MPI_COMM_WORLD);
-    printf("%d: %s, %g, %ld\n", rank, text, all, third);
+    if (rank == 0)
+        printf("%s: %g of all, and then %ld\n", text, all, third);
     free(text);
     MPI_Finalize();
     return 0;
