@@ -1,5 +1,7 @@
 """Where a run with `--until-stuck` ends, and what is told of it, as docs/DEBUGGING.md and docs/MACHINE.md have it."""
 
+import re
+
 import cluster
 import why
 from list import is_vain
@@ -22,7 +24,7 @@ class End:
         self.why = why.told(self.cluster)
         going = [rank for rank in self.cluster.ranks if not all(hart.is_stopped() for hart in rank.harts)]
         last = self.why.decode().splitlines()[-1]
-        dead = set(last.partition("deadlock: ranks ")[2].split())
+        dead = set(re.findall(r"\d", last)) if last.startswith("deadlock: ") else set()
         self.is_stuck = bool(going) and {str(rank.number) for rank in going} <= dead
         early = "stuck" if self.is_stuck else "told"
         self.stops = {rank.number: "all-ended" for rank in self.cluster.ranks}

@@ -688,8 +688,8 @@ def awaited(text):
 
 
 def ranks_of(text):
-    """The ranks that such a text is of."""
-    return set(re.search(rb"^deadlock: ranks ([\d ]+) while", text, re.MULTILINE)[1].split())
+    """The ranks that such a text is of: those that wait, and those that have stopped, which its last line leaves out."""
+    return set(re.findall(rb"^rank (\d) hart ", text, re.MULTILINE))
 
 
 def line_at(text, at):

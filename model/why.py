@@ -172,7 +172,8 @@ def unreceived(hub, rank):
     if not keys:
         return ""
     lines = (f"  from rank {source} tag {tag}: {keys.count((source, tag))}\n" for source, tag in sorted(set(keys)))
-    return f"rank {rank} unreceived: {len(keys)} messages\n" + "".join(lines)
+    count = "1 message" if len(keys) == 1 else f"{len(keys)} messages"
+    return f"rank {rank} unreceived: {count}\n" + "".join(lines)
 
 
 def is_stuck(rank, waits, among):
@@ -193,15 +194,16 @@ def stuck_ranks(cluster, waits):
     return sorted(among) if is_waiting else []
 
 
-def named(ranks):
-    """Ranks that are stuck, as they are told."""
-    return f"deadlock: ranks {' '.join(map(str, ranks))}"
+def named(cluster, ranks):
+    """Of ranks that are stuck, or that need buffers, those that have not stopped, as a text names them."""
+    live = [str(rank) for rank in sorted(ranks) if not all(hart.is_stopped() for hart in cluster.ranks[rank].harts)]
+    return f"rank {live[0]}" if len(live) == 1 else f"ranks {' '.join(live)}"
 
 
 def verdict(cluster, waits):
     """Which ranks are stuck together."""
     ranks = stuck_ranks(cluster, waits)
-    return f"{named(ranks)}\n" if ranks else "no deadlock shown\n"
+    return f"deadlock: {named(cluster, ranks)}\n" if ranks else "no deadlock shown\n"
 
 
 def waits_of(cluster):
@@ -218,7 +220,7 @@ def told_of_company(cluster):
     waits = waits_of(cluster)
     ranks = stuck_ranks(cluster, waits)
     lines = [hart_line(cluster.image, cluster.ranks[rank], hart, found, False) for (rank, hart), found in waits.items() if rank in ranks]
-    return ("".join(lines) + f"{named(ranks)} while others run on\n").encode() if ranks else b""
+    return ("".join(lines) + f"deadlock: {named(cluster, ranks)} while others run on\n").encode() if ranks else b""
 
 
 class Rest:
@@ -292,7 +294,7 @@ def told_of_need(cluster):
     if all(rests[rank] is None or others_ahead(cluster, rank) for rank in among):
         return b""
     lines = [held_line(cluster, cluster.ranks[rank], rests[rank], waits[rank, 0]) for rank in sorted(among)]
-    return ("".join(lines) + f"needs buffering: ranks {' '.join(map(str, sorted(among)))}\n").encode()
+    return ("".join(lines) + f"needs buffering: {named(cluster, among)}\n").encode()
 
 
 def is_held_up(rank, rest, waits, among):

@@ -75,6 +75,12 @@ const char *rvmc_check_call(const char *call, unsigned behind)
     return text;
 }
 
+/* RISC-V has no trap for it: the quotient is -1. */
+void rvmc_check_division(unsigned long behind)
+{
+    RVMC_TELL((unsigned)behind, 0, "division by zero at %s", rvmc_check_line((unsigned)behind));
+}
+
 /* The C library's lock, which malloc takes too (threads.c). */
 struct __lock;
 extern struct __lock __lock___libc_recursive_mutex;

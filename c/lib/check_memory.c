@@ -24,7 +24,12 @@ static size_t length_of(const char *text)
     return length_within(text, (size_t)(RVMC_NUMBER(rvmc_memory) - (long)text));
 }
 
-#define READS_TEXT(call, text) READS(call, text, length_of(text) + 1)
+static void tell_null(const char *call, unsigned behind)
+{
+    RVMC_TELL(behind, 0, "a null pointer is given to %s", rvmc_check_call(call, behind));
+}
+
+#define READS_TEXT(call, text) ((text) ? READS(call, text, length_of(text) + 1) : tell_null(call, RVMC_BEHIND))
 
 void *rvmc_checked_memcpy(void *to, const void *from, size_t size)
 {
@@ -61,15 +66,10 @@ void *rvmc_checked_memchr(const void *at, int byte, size_t size)
     return found;
 }
 
-/* strlen itself traps at a null pointer, which the compiler isn't to know here. */
 size_t rvmc_checked_strlen(const char *text)
 {
-    const char *volatile at = text;
-
-    if (!text)
-        return strlen(at);
     READS_TEXT("strlen", text);
-    return length_of(text);
+    return rvmc_told ? 0 : length_of(text);
 }
 
 char *rvmc_checked_strcpy(char *to, const char *from)

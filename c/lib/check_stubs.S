@@ -3,6 +3,8 @@
 # Most accesses are right, and cost about ten turns here: below the heap nothing but the buffers of active requests is
 # looked at, and in the heap the block that was found last. All others go to rvmc_check_access. Behind the call is a trap:
 # a right access goes on four bytes further. Only t0 and t1 are touched.
+        .cfi_sections .debug_frame
+
         .macro go_on
         jr 4(ra)
         .endm
@@ -31,6 +33,7 @@
         .globl \name
         .type \name, @function
 \name:
+        .cfi_startproc
         .endm
 
         # A store of so many bytes.
@@ -41,6 +44,7 @@
 2:      li a1, \bytes
         li a3, 1
         j rvmc_check_slowly
+        .cfi_endproc
         .size __tsan_write\bytes, . - __tsan_write\bytes
         .endm
 
@@ -56,6 +60,7 @@
 2:      li a1, \bytes
         li a3, 0
         j rvmc_check_slowly
+        .cfi_endproc
         .size __tsan_read\bytes, . - __tsan_read\bytes
         .endm
 
@@ -76,6 +81,7 @@
 2:      li a1, 8
         li a3, 0
         j rvmc_check_slowly
+        .cfi_endproc
         .size __tsan_read8, . - __tsan_read8
 
         # 16 bytes need not be aligned to 16, so in the heap they may begin in a block and end behind it. A copy of a
@@ -96,6 +102,7 @@
 2:      li a1, 16
         li a3, \is_store
         j rvmc_check_slowly
+        .cfi_endproc
         .size \name, . - \name
         .endm
 
@@ -105,11 +112,13 @@
         begins __tsan_read_range
         li a3, 0
         j rvmc_check_slowly
+        .cfi_endproc
         .size __tsan_read_range, . - __tsan_read_range
 
         begins __tsan_write_range
         li a3, 1
         j rvmc_check_slowly
+        .cfi_endproc
         .size __tsan_write_range, . - __tsan_write_range
 
         # Of packed structures: aligned to nothing, so that they may reach out of a block.
@@ -118,6 +127,7 @@
         li a1, \bytes
         li a3, \is_store
         j rvmc_check_slowly
+        .cfi_endproc
         .size \name, . - \name
         .endm
 
@@ -140,11 +150,13 @@
 2:      li a1, 0
         li a3, 0
         j rvmc_check_slowly
+        .cfi_endproc
         .size __tsan_func_entry, . - __tsan_func_entry
 
         # Each source calls this before main.
         begins __tsan_init
         ret
+        .cfi_endproc
         .size __tsan_init, . - __tsan_init
 
 # a0 the address, a1 the bytes, a3 whether they are written. Goes on behind the trap, or to it. The registers that the
@@ -153,9 +165,13 @@
         .globl rvmc_check_slowly
         .type rvmc_check_slowly, @function
 rvmc_check_slowly:
+        .cfi_startproc
         addi sp, sp, -112
+        .cfi_def_cfa_offset 112
         sd ra, 104(sp)
         sd s0, 96(sp)
+        .cfi_offset ra, -8
+        .cfi_offset s0, -16
         addi s0, sp, 112
         sd s1, 0(sp)
         sd s2, 8(sp)
@@ -173,8 +189,12 @@ rvmc_check_slowly:
         call rvmc_check_access
         ld ra, 104(sp)
         ld s0, 96(sp)
+        .cfi_restore ra
+        .cfi_restore s0
         addi sp, sp, 112
+        .cfi_def_cfa_offset 0
         bnez a0, 1f
         go_on
 1:      ret
+        .cfi_endproc
         .size rvmc_check_slowly, . - rvmc_check_slowly

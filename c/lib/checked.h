@@ -37,6 +37,9 @@ void rvmc_check_trap(void);
 const char *rvmc_check_line(unsigned behind);
 const char *rvmc_check_call(const char *call, unsigned behind);
 
+/* What traps.S calls before an integer is divided by zero; it may trap behind that. */
+void rvmc_check_division(unsigned long behind);
+
 /* The tables of a rank change under the heap's lock, where the rank has several harts; accesses are looked at without. */
 void rvmc_check_lock(void);
 void rvmc_check_unlock(void);

@@ -18,7 +18,8 @@ SECTIONS
     .text 0 :
     {
         KEEP(*(.text.rvmc.start))
-        *(.text .text.*)
+        *(EXCLUDE_FILE(*readers.o *libc.a:*) .text EXCLUDE_FILE(*readers.o *libc.a:*) .text.*)
+        *(.text SORT_BY_NAME(.text.*))          /* readers.S before what it calls: one symbol is of both */
         . = ALIGN(8);
         __init_array_start = .;
         KEEP(*(SORT(.init_array.*) .init_array))

@@ -8,6 +8,9 @@
 #include "call.h"
 #include "heap.h"
 
+/* A program may have its own. */
+#define WEAK __attribute__((weak))
+
 void *__real_malloc(size_t size);
 void *__real_calloc(size_t count, size_t size);
 void *__real_realloc(void *old, size_t size);
@@ -84,14 +87,14 @@ static char *copied(char *to, const char *from, size_t length)
     return to;
 }
 
-char *__wrap_strdup(const char *text)
+WEAK char *strdup(const char *text)
 {
     size_t length = strlen(text);
 
     return copied(told(__real_malloc(length + 1), "strdup", 1, length + 1), text, length);
 }
 
-char *__wrap_strndup(const char *text, size_t most)
+WEAK char *strndup(const char *text, size_t most)
 {
     size_t length = strnlen(text, most);
 

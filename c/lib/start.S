@@ -3,22 +3,33 @@
 # communicator 0 (call.h): so a run in which nobody will ever give them work is a deadlock that can be shown, where a loop would
 # run on. They touch no memory before that, since the data is not in its place until hart 0 has put it there.
 # The stacks stand straight above the text, hart 0's lowest (guest.ld). No function of C has a section of this name.
-        .section .text.rvmc.start, "ax"
-# Where a call through a null pointer leads: address 0. It tells so, and traps with the caller's frame and ra as they were.
-        .globl null_call
-        .type null_call, @function
-null_call:
-        addi sp, sp, -16
-        sd ra, 8(sp)
-        call rvmc_null_call
-        ld ra, 8(sp)
-        addi sp, sp, 16
+        .cfi_sections .debug_frame
+
+# A line and a trap, with all registers as they were (traps.S). rvmc-cc puts the same where a check of a pointer has failed.
+        .macro trap_after function
+        jal gp, \function
+        .option push
+        .option norelax
+        la gp, __global_pointer$
+        .option pop
         ebreak
+        .endm
+
+        .section .text.rvmc.start, "ax"
+# Where a call through a null pointer leads: address 0. It is no function to a debugger, which would show its name for NULL.
+        .globl null_call
+null_call:
+        .cfi_startproc
+        trap_after rvmc_null_call
+        ret
+        .cfi_endproc
         .size null_call, . - null_call
 
         .globl _start
         .type _start, @function
 _start:
+        .cfi_startproc
+        .cfi_undefined ra
         .option push
         .option norelax
         la gp, __global_pointer$
@@ -45,11 +56,14 @@ _start:
 2:      jal t6, thread_locals
         mv a0, s2
         call rvmc_begin                 # does not return
+        .cfi_endproc
         .size _start, . - _start
 
         .globl idle_hart
         .type idle_hart, @function
 idle_hart:
+        .cfi_startproc
+        .cfi_undefined ra
         li a0, 0
         li a1, 0
         mv a2, s2                       # from the own rank
@@ -62,11 +76,14 @@ idle_hart:
         mv a0, s1
         call rvmc_work
         j idle_hart
+        .cfi_endproc
         .size idle_hart, . - idle_hart
 
 # Gives hart s1 its thread-local variables anew, as a new thread has to have them. Returns by t6.
         .type thread_locals, @function
 thread_locals:
+        .cfi_startproc
+        .cfi_return_column t6
         la tp, rvmc_locals
         la t0, rvmc_locals_size
         mul t1, t0, s1
@@ -84,4 +101,5 @@ thread_locals:
         addi t1, t1, 8
         j 1b
 3:      jr t6
+        .cfi_endproc
         .size thread_locals, . - thread_locals

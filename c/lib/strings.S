@@ -1,7 +1,9 @@
 # strings.S: memcpy, memmove, memset, memcmp and strlen, in the place of the C library's, which go byte by byte. They move 8
 # bytes at a time where both sides can, and otherwise put 8 bytes together from two loads, since a load at another multiple
 # traps. They leave ra, sp and s0 alone, so that a debugger finds the caller. A program may have its own, so they are weak.
-# No load leaves the 8 bytes, at a multiple of 8, that hold a byte which is asked for.
+# No load leaves the 8 bytes, at a multiple of 8, that hold a byte which is asked for. A null pointer is reported where there
+# are bytes to be read or written.
+#include "null.h"
         .cfi_sections .debug_frame
 
         .macro begins name
@@ -16,35 +18,6 @@
         .cfi_endproc
         .size \name, . - \name
         .endm
-
-# A null pointer, and bytes to be read or written by it: a line, and a trap. The frame leads to the caller.
-        .macro null_pointer
-        .cfi_remember_state
-        addi sp, sp, -16
-        .cfi_def_cfa_offset 16
-        sd ra, 8(sp)
-        sd s0, 0(sp)
-        .cfi_offset ra, -8
-        .cfi_offset s0, -16
-        addi s0, sp, 16
-        call rvmc_null_bytes
-        ld ra, 8(sp)
-        ebreak
-        .cfi_restore_state
-        .endm
-
-        .section .text.rvmc_null_bytes, "ax"
-        .type rvmc_null_bytes, @function
-rvmc_null_bytes:
-        .cfi_startproc
-        la a0, .Lnull
-        la a1, .Lnull_end
-        tail rvmc_tell
-        ends rvmc_null_bytes
-        .section .rodata.rvmc_null_bytes, "a"
-.Lnull: .ascii "a null pointer is read or written"
-.Lnull_end:
-        .byte 0
 
 # a0 to, a1 from, a2 bytes.
         begins memcpy
@@ -129,7 +102,7 @@ rvmc_null_bytes:
         add a1, a1, t4
         j 5b
 .Lcopy_null:
-        null_pointer
+        is_null memcpy
         ends memcpy
 
         begins memmove
@@ -139,7 +112,7 @@ rvmc_null_bytes:
         sub t0, a0, a1
         bltu t0, a2, .Lbackward
         j .Lforward
-1:      null_pointer
+1:      is_null memmove
 # From the high end: a3 behind to, a1 behind from, a0 the end, a5 the last place at which so many bytes are left.
 .Lbackward:
         add a3, a0, a2
@@ -256,7 +229,7 @@ rvmc_null_bytes:
         addi a3, a3, 1
         bltu a3, a4, 8b
 9:      ret
-10:     null_pointer
+10:     is_null memset
         ends memset
 
 # a0 and a1 the sides, a2 bytes, a4 the end of a0. t0 and t1 are 8 bytes of each that may differ.
@@ -354,7 +327,7 @@ rvmc_null_bytes:
         sub a0, t0, t1
         ret
 .Lcompare_null:
-        null_pointer
+        is_null memcmp
         ends memcmp
 
 # a0 the text, a2 where it is looked at. In 8 bytes of which none is 0, and none above 128, taking 1 from each byte leaves
@@ -414,7 +387,7 @@ rvmc_null_bytes:
         sub a0, a2, a0
         ret
 .Lno_text:
-        null_pointer
+        is_null strlen
         .balign 8
 .Lones: .dword 0x0101010101010101
 .Lnumbers:

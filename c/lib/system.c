@@ -59,18 +59,6 @@ void rvmc_tell(const char *what, const char *more)
     putchar('\n');
 }
 
-/* rvmc-cc calls this where a compiler's check of a pointer has failed. The trap stands behind the call, in the function
-   whose check it is. */
-void rvmc_null_pointer(void)
-{
-    rvmc_tell("a null pointer is read or written", "");
-}
-
-void rvmc_null_call(void)
-{
-    rvmc_tell("a null pointer is called", "");
-}
-
 /* The end of hart 0 is the end of those that wait for work; one that works ends when it comes to ask for more. The machine
    has no call that ends another hart. */
 void _exit(int code)

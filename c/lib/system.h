@@ -14,8 +14,6 @@ extern struct rvmc_page rvmc_pages[];
 void rvmc_put_line(void);
 void rvmc_begin_line(void);
 void rvmc_tell(const char *what, const char *more);
-void rvmc_null_pointer(void);
-void rvmc_null_call(void);
 void rvmc_work(long hart);
 void rvmc_threads_begin(void);
 void rvmc_threads_end(void);

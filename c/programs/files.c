@@ -1,4 +1,4 @@
-/* A file that each rank opens by its name: read by words, by lines, by bytes, and from places in it.
+/* A file that each rank opens by its name: read by words, by lines, by bytes, and from places in it; and one that isn't there.
 
    c/rvmc-cc -n 2 --arg c/programs/table.txt --file c/programs/table.txt -o files.image c/programs/files.c && \
        rvmc run < files.image */
@@ -52,7 +52,7 @@ int main(int argc, char *argv[])
     length = (int)read(descriptor, bytes, 3);
     printf("by read: %d bytes, '%.3s'\n", length, bytes);
     close(descriptor);
-    printf("another: %s\n", fopen("no such file", "r") == NULL ? "not there" : "WRONG");
+    printf("another: %s\n", access("no such file", R_OK) != 0 ? "not there" : "WRONG");
     MPI_Finalize();
     return 0;
 }

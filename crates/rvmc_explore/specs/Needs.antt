@@ -28,7 +28,7 @@ use Rattle.cl_rest_laws.specs.Rests.{handles_ahead, post_of_send, says_buffered}
 use Rattle.rvmc_report.specs.Report.{newline}
 use Rattle.rvmc_inspect.specs.Texts.{hart_head, hart_waits_text, waiting_text}
 use Rattle.rvmc_inspect.specs.Waits.{waits}
-use Rattle.rvmc_inspect.specs.Why.{more_ranks}
+use Rattle.rvmc_inspect.specs.Why.{live_ranks, rank_names}
 use Rattle.rvmc_inspect.specs.declared.awaited.Wait.{Wait}
 use Rattle.rvmc_inspect.specs.declared.awaited.Wait.TheVariants as wait
 use Rattle.rvmc_explore.specs.declared.needs.Rest.{Rest}
@@ -120,10 +120,10 @@ held_text image state number = held_text_at image state number (slice_get state.
 
 -- ---- all of it
 
--- `needs buffering: ranks 0 1`
-abbrev pub need_line : List ℕ → List ℕ
-need_line ranks = codes "needs buffering: ranks" ++ (more_ranks ranks ++ newline)
+-- `needs buffering: ranks 0 1`: of these ranks, those that have not stopped
+abbrev pub need_line : ClusterState → List ℕ → List ℕ
+need_line state ranks = codes "needs buffering: " ++ (rank_names (live_ranks state ranks) ++ newline)
 
 -- how these ranks are held up, in order, and that they need buffers
 abbrev pub need_text : ImageParts → ClusterState → List ℕ → List ℕ
-need_text image state ranks = flat_map (held_text image state) ranks ++ need_line ranks
+need_text image state ranks = flat_map (held_text image state) ranks ++ need_line state ranks

@@ -8,7 +8,7 @@ ghost use Rattle.cl_calls.specs.Site.{member};
 ghost use Rattle.cl_state.specs.Room.{rank_of};
 ghost use Rattle.rvmc_inspect.specs.Texts.{hart_head};
 ghost use Rattle.rvmc_inspect.specs.Waits.{waits as waits_of};
-ghost use Rattle.rvmc_inspect.specs.Why.{more_ranks, rank_word};
+ghost use Rattle.rvmc_inspect.specs.Why.{live_ranks, rank_names};
 ghost use Rattle.rvmc_explore.specs.Needs.{awaited_sends, behind_text, held_rank_text, held_text, lacks_receive_at, need_line, need_text};
 ghost use Rattle.rvmc_explore.specs.Needs.{receiver_at, sends_to, rest_in, rest_line, rest_of, send_wait, sends_ahead};
 
@@ -20,7 +20,7 @@ use mp_hub::HubState;
 use mp_request::{OpenRequest, Transfer};
 use rv_hart::{Hart, Mode};
 use rv_image_types::{Image, Symbol};
-use rvmc_inspect::{Wait, put_harts, put_waits, waits};
+use rvmc_inspect::{Wait, put_harts, put_live_ranks, put_waits, waits};
 use rvmc_places::{is_in_library, put_own_place};
 use std::alloc::{AllocError, Global};
 
@@ -299,30 +299,17 @@ fn put_all_held(
     Ok(())
 }
 
-/// A rank behind others.
-fn rank_text(alloc: Global, rank: u8) -> Result<String, AllocError>
-    ensures { IfOk result (λ text. string_bytes text ≡ rank_word rank) }
-{
-    format!(in alloc; " {rank}")
-}
-
-/// Adds the numbers of ranks.
-fn put_ranks(alloc: Global, text: &mut Vec<u8>, ranks: &[u8]) -> Result<(), AllocError>
-    ensures { OnOk result (text.new.items ≡ text.old.items ++ more_ranks ranks.now) }
-{
-    for rank in ranks {
-        let more = rank_text(alloc, *rank)?;
-        text.extend_from_slice(more.as_bytes())?;
-    }
-    Ok(())
-}
-
 /// Adds that these ranks need buffers.
-fn put_need_line(alloc: Global, text: &mut Vec<u8>, ranks: &[u8]) -> Result<(), AllocError>
-    ensures { OnOk result (text.new.items ≡ text.old.items ++ need_line ranks.now) }
+fn put_need_line(
+    alloc: Global,
+    text: &mut Vec<u8>,
+    state: &ClusterState,
+    ranks: &[u8],
+) -> Result<(), AllocError>
+    ensures { OnOk result (text.new.items ≡ text.old.items ++ need_line state.now ranks.now) }
 {
-    text.extend_from_slice(b"needs buffering: ranks")?;
-    put_ranks(alloc, text, ranks)?;
+    text.extend_from_slice(b"needs buffering: ")?;
+    put_live_ranks(alloc, text, state, ranks)?;
     text.push(b'\n')?;
     Ok(())
 }
@@ -340,5 +327,5 @@ pub(crate) fn put_need(
     ensures { OnOk result (text.new.items ≡ text.old.items ++ need_text image.now state.now ranks.now) }
 {
     put_all_held(alloc, text, image, state, ranks)?;
-    put_need_line(alloc, text, ranks)
+    put_need_line(alloc, text, state, ranks)
 }

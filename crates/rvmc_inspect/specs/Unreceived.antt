@@ -35,10 +35,16 @@ count_of_sends source tag sends = count_by (is_of source tag) sends
 
 -- ---- their text
 
+-- behind a count: `1 message`, `2 messages`
+abbrev pub message_word : ℕ → List ℕ
+message_word count = if count == 1 then codes "message" else codes "messages"
+
 -- `rank R unreceived: N messages`
 abbrev pub unreceived_head : ℕ → ℕ → List ℕ
 unreceived_head rank count =
-    codes "rank " ++ (decimal rank ++ (codes " unreceived: " ++ (decimal count ++ (codes " messages" ++ newline))))
+    codes "rank "
+    ++ (decimal rank
+    ++ (codes " unreceived: " ++ (decimal count ++ (codes " " ++ (message_word count ++ newline)))))
 
 -- `  from rank S tag T: N`, where there are any
 abbrev pub number_line : ℕ → ℕ → ℕ → List ℕ

@@ -21,7 +21,7 @@ pub use harts::put_harts;
 pub use rvmc_report::{
     ClusterState, ReplayFault, faults, input, listing, recorded, replay, report, stuck,
 };
-pub use telling::{put_company, why};
+pub use telling::{put_company, put_live_ranks, why};
 pub use unreceived::put_unreceived;
 pub use word_texts::{bytes_text, place_text, regs_text};
 pub use words::{Told, address_of, tell_all};

@@ -2,7 +2,7 @@
 
 ghost use Rattle.std.specs.Prelude.{◌≡◌, ◌+◌, ◌++◌, ◌<◌, ◌≤◌, ◌-◌, ◌^◌, ℕ, cond, get_or, IfOk, OnOk, length};
 ghost use Rattle.std.specs.Prelude.{option_to_list, set, string_bytes, vec_len};
-ghost use Rattle.rvmc_inspect.specs.Unreceived.{is_of, messages_text, number_line, count_of_sends, sender_lines, sent_in};
+ghost use Rattle.rvmc_inspect.specs.Unreceived.{is_of, message_word, messages_text, number_line, count_of_sends, sender_lines, sent_in};
 ghost use Rattle.rvmc_inspect.specs.Unreceived.{sent_to, tag_count, unreceived, unreceived_head, unreceived_text};
 
 use mp_hub::HubState;
@@ -139,11 +139,19 @@ fn put_sender(
     Ok(())
 }
 
+/// What stands behind a count of messages.
+fn message_word(count: usize) -> &'static str
+    ensures { result.now ≡ message_word count }
+{
+    if count == 1 { "message" } else { "messages" }
+}
+
 /// The line before those of a rank.
 fn head(alloc: Global, rank: usize, count: usize) -> Result<String, AllocError>
     ensures { IfOk result (λ text. string_bytes text ≡ unreceived_head rank count) }
 {
-    format!(in alloc; "rank {rank} unreceived: {count} messages\n")
+    let word = message_word(count);
+    format!(in alloc; "rank {rank} unreceived: {count} {word}\n")
 }
 
 /// Adds what is told of these messages to a rank, by so many senders.

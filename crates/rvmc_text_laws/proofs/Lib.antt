@@ -4,6 +4,7 @@ pub mod Sets
 pub mod Boxes
 pub mod Waits
 pub mod Lines
+pub mod Live
 pub mod Unreceived
 pub mod Why
 pub mod EndTexts

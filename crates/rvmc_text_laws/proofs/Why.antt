@@ -1,6 +1,7 @@
 -- Alike states have one text.
-use Rattle.std.proofs.Common.{◌≡◌, ◌∙◌, ℕ, ◌<◌, refl, sym, ap, subst, Bool, List, map, length, Option, Some, ◌++◌}
-use Rattle.std.specs.List.{slice_get}
+use Rattle.std.proofs.Common.{◌≡◌, ◌∙◌, ℕ, ◌<◌, refl, sym, ap, subst, Bool, List, map, length, Option, Some, None, ◌++◌}
+use Rattle.std.specs.Prelude.{codes}
+use Rattle.std.specs.List.{filter, slice_get}
 use Rattle.std.proofs.lemmas.List.{length-map}
 use Rattle.rv_image_types.specs.Image.{IsImage}
 use Rattle.rv_image_types.specs.declared.images.ImageParts.{ImageParts}
@@ -32,12 +33,15 @@ use Rattle.cl_verdict_laws.proofs.Asking.{asking_law}
 use Rattle.cl_verdict_laws.proofs.Live.{live_law}
 use Rattle.cl_rest_laws.proofs.Unpaired.{unpaired_law}
 use Rattle.cl_verdict_laws.proofs.Verdicts.{verdict_law}
+use Rattle.rvmc_inspect.specs.Below.{newline}
 use Rattle.rvmc_inspect.specs.Unreceived.{unreceived_text}
 use Rattle.rvmc_inspect.specs.Waits.{box_is_full}
-use Rattle.rvmc_inspect.specs.Why.{all_harts_text, deadlock_verdict_text}
+use Rattle.rvmc_inspect.specs.Why.{all_harts_text, deadlock_verdict_text, is_live_at, live_ranks, rank_names}
+use Rattle.rvmc_inspect.proofs.Live.{live_over}
 use Rattle.rvmc_text_laws.specs.Laws.{AreAlikeStates, WhyLaw}
 use Rattle.rvmc_text_laws.proofs.Boxes.{box_same}
 use Rattle.rvmc_text_laws.proofs.Lines.{WaitSame, lines_of_states, lines_same, rank_lines}
+use Rattle.rvmc_text_laws.proofs.Live.{live_same}
 use Rattle.rvmc_text_laws.proofs.Unreceived.{unreceived_same}
 use Rattle.rvmc_text_laws.proofs.Waits.{MayAsk, waits_same}
 
@@ -161,10 +165,29 @@ module _ (image : ImageParts) (s t : ClusterState) (alike : AreAlikeStates image
       (found image a (record { right = right; reached = (alike.first).reached; stands = (alike.first).stands }))
       (also image b (record { right = right; reached = (alike.second).reached; stands = (alike.second).stands }))
 
+  each_live_same : (r : ℕ) → is_live_at (slice_get t.ranks.items r) ≡ is_live_at (slice_get s.ranks.items r)
+  each_live_same r =
+      live_over t.ranks.items b.ranks ((alike.second).stands).ranks_are r
+      ∙ live_same names a.ranks b.ranks ((alike.alike).1).ranks r
+      ∙ sym (live_over s.ranks.items a.ranks ((alike.first).stands).ranks_are r)
+
+  -- the same ranks are named
+  live_ranks_same : (ranks : List ℕ) → live_ranks t ranks ≡ live_ranks s ranks
+  live_ranks_same ranks = λ i. filter (λ r. each_live_same r i) ranks
+
+  named_same : (found : Option (List ℕ)) → deadlock_verdict_text t found ≡ deadlock_verdict_text s found
+  named_same None = refl
+  named_same (Some ranks) = λ i. codes "deadlock: " ++ (rank_names (live_ranks_same ranks i) ++ newline)
+
+  verdict_text_same : IsImage image → (one other : Option (List ℕ)) → IsDeadlockVerdict s one → IsDeadlockVerdict t other
+      → deadlock_verdict_text s one ≡ deadlock_verdict_text t other
+  verdict_text_same right one other found also =
+      ap (deadlock_verdict_text s) (verdict_same right one other found also) ∙ sym (named_same other)
+
 pub why_law : WhyLaw
 why_law framed image s t x y right alike one two =
     one.is
     ∙ (λ i. sym (harts_same image s t alike framed) i
     ++ (sym (untaken_same image s t alike) i
-    ++ deadlock_verdict_text (verdict_same image s t alike right one.found two.found one.verdict two.verdict i)))
+    ++ verdict_text_same image s t alike right one.found two.found one.verdict two.verdict i))
     ∙ sym two.is

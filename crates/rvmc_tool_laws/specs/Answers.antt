@@ -1,13 +1,16 @@
 -- What follows for a report of `run`, for what `--record` leaves, and for the verdict that `why` tells.
-use Rattle.std.specs.Prelude.{ℕ, ◌≡◌, ◌≢◌, ◌<◌, Bool, true, false, List, [], length, slice_get, Option, None, Some}
+use Rattle.std.specs.Prelude.{ℕ, ◌≡◌, ◌≢◌, ◌<◌, ◌↔◌, ⊤, Bool, IsTrue, true, false, List, [], ◌∷◌, length, slice_get, Option, None, Some}
 use Rattle.std.specs.List.{list_all}
 use Rattle.rv_hart.specs.State.{is_stopped}
 use Rattle.cl_rank.specs.declared.stops.Stop.{Stop}
 use Rattle.cl_rank.specs.declared.stops.Stop.TheVariants.{AllEnded, Budget}
 use Rattle.cl_record.specs.declared.plans.Plan.{Plan}
 use Rattle.cl_check.specs.declared.checking.Verdict.TheVariants.{Good}
+use Rattle.cl_machine.specs.Cluster.{Cluster}
 use Rattle.cl_machine.specs.declared.steps.Step.{Step}
 use Rattle.cl_deadlock.specs.Why.{IsVerdictOf}
+use Rattle.cl_deadlock_laws.specs.Stuck.{SomeWaits, is_among}
+use Rattle.cl_replay.specs.declared.states.ClusterState.{ClusterState}
 use Rattle.rv_image_types.specs.declared.images.ImageParts.{ImageParts}
 use Rattle.rvmc_tool.specs.Below.{IsLeftByThreads, IsTextOf, IsTold}
 use Rattle.rvmc_tool.specs.Answers.{Says}
@@ -22,7 +25,7 @@ use Rattle.rvmc_line.specs.declared.line.Written.{Written}
 use Rattle.rvmc_line.specs.declared.line.Written.TheVariants as written
 use Rattle.rvmc_report.specs.Report.{RankEnd, report}
 use Rattle.rvmc_views.specs.Verdicts.{verdict_text}
-use Rattle.rvmc_inspect.specs.Why.{why_text}
+use Rattle.rvmc_inspect.specs.Why.{live_ranks, why_text}
 
 -- why a rank stopped, as its harts and the number of its turns have it: all harts are stopped just where that is told;
 -- the budget is used up, and there was one; for any other cause turns were left; and the cause is known
@@ -64,11 +67,18 @@ RecordedIsGoodLaw = (line : CommandLine) (bytes text told : List ℕ) (status en
     → Says line bytes text status → text ≢ [] → Says (OfRecord Check) text told ended
     → (count : ℕ) × IsDone (verdict_text Good count) told ended
 
--- the verdict that is told of a place is right of the cluster to which the steps lead: ranks that are named are in a
--- deadlock there, and no run of the machine lets any of them go on; and where none are named, nobody waits of whichever
--- ranks are stuck together
+-- a verdict names exactly those of the ranks in a deadlock that have a hart that waits
+abbrev pub NamesWhoWaits : ClusterState → Cluster → Option (List ℕ) → Type 0
+NamesWhoWaits state cluster None = ⊤
+NamesWhoWaits state cluster (Some ranks) =
+    (r : ℕ) → IsTrue (is_among (live_ranks state ranks) r) ↔ (IsTrue (is_among ranks r) × SomeWaits (r ∷ []) cluster)
+
+-- the verdict that is told of a place is right of the cluster to which the steps lead: if it is a deadlock, no run of the
+-- machine lets any of its ranks go on, which are the most that are stuck together, and those that wait are named; and
+-- where none is told, nobody waits of whichever ranks are stuck together
 abbrev pub VerdictIsTrueLaw : Type 0
 VerdictIsTrueLaw =
     (framed : Bool) (image : ImageParts) (steps : List Step) (n : ℕ) (text : List ℕ)
     (is : IsWhyAt framed image steps n text)
     → (found : Option (List ℕ)) × (text ≡ why_text framed image is.state found) × IsVerdictOf is.reached.cluster found
+    × NamesWhoWaits is.state is.reached.cluster found

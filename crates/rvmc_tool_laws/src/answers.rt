@@ -13,7 +13,7 @@ pub fn recorded_is_good()
 {}
 
 /// The verdict that `why` tells of a record's place, and `--why` of a run's end, is right of the machine's cluster there:
-/// whatever turns are taken from it on, no hart goes on of the ranks that are named as a deadlock.
+/// whatever turns are taken from it on, no hart goes on of the ranks in a deadlock, of which those that wait are named.
 pub fn verdict_is_true()
     ensures { VerdictIsTrueLaw }
 {}

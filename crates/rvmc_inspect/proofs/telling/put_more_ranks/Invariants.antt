@@ -1,6 +1,6 @@
 use Rattle.std.proofs.Common.{◌≡◌, ◌++◌, take}
 use Rattle.rvmc_inspect.specs.Why.{more_ranks}
-use Rattle.rvmc_inspect.proofs.telling.put_ranks.Given as goal
+use Rattle.rvmc_inspect.proofs.telling.put_more_ranks.Given as goal
 
 -- those so far
 abbrev pub invariant-loop-rank : goal.invariant-loop-rank
