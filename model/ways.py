@@ -103,8 +103,9 @@ class Way:
             return self.pc + word.j
         if word.rd == 0 and word.rs1 == RA:
             return None
-        if word.opcode == JALR and word.rd == 0 and word.rs1 == T0:
-            return self.regs[T0] + word.i
+        if word.rd == 0:
+            # a return by t0, or a jump by a table, behind which stands one of the cases
+            return self.regs[T0] + word.i if word.rs1 == T0 else behind
         raise Lost
 
     def branches(self, word):

@@ -62,13 +62,12 @@ jal rd target spot =
     if (rd == 0) then goes_to target spot
     else (if (rd == 1) then goes_on spot else (if (rd == 5) then calls_by_t0 target spot else Lost))
 
--- JALR: a call; the return; or the return by t0
+-- JALR: a call; the return; the return by t0; or a jump by a table, behind which stands one of the cases
 abbrev pub jalr : ℕ → ℕ → ℤ → Spot → Progress
 jalr rd rs1 off spot =
-    if (rd == 1) then goes_on spot
-    else (if not (rd == 0) then Lost
+    if not (rd == 0) then (if (rd == 1) then goes_on spot else Lost)
     else (if (rs1 == 1) then Out spot.hart
-    else (if (rs1 == 5) then goes_to (offset (read spot.hart 5) off) spot else Lost)))
+    else (if (rs1 == 5) then goes_to (offset (read spot.hart 5) off) spot else goes_on spot))
 
 -- a branch: the lowest of 8 binary digits says whether the way jumps here, and the others whether it does at the
 -- branches that come, over and over

@@ -45,11 +45,11 @@ saving =
     0xf9010113 ∷ 0x00500313 ∷ 0x06813023 ∷ 0x06113423 ∷ 0x00431313 ∷ 0x00610133 ∷ 0x00028067
     ∷ 0x01010113 ∷ 0x00013403 ∷ 0x00813083 ∷ 0x01010113 ∷ 0x00008067 ∷ []
 
--- a loop without a frame, which ends by a branch that is taken; and a jump that leads nowhere that is known:
+-- a loop without a frame, which ends by a branch that is taken; and a sp that isn't known:
 -- 0x78  addi a0, a0, -1    beq a0, x0, 0x84    j 0x78    ret
--- 0x88  jr a5    jr a5
+-- 0x88  addi sp, a0, 0    ret
 abbrev looping : List ℕ
-looping = 0xfff50513 ∷ 0x00050463 ∷ 0xff9ff06f ∷ 0x00008067 ∷ 0x00078067 ∷ 0x00078067 ∷ []
+looping = 0xfff50513 ∷ 0x00050463 ∷ 0xff9ff06f ∷ 0x00008067 ∷ 0x00050113 ∷ 0x00008067 ∷ []
 
 -- the text is 144 bytes, and the stack the words behind it
 abbrev memory_of : List ℕ → Memory
@@ -67,7 +67,7 @@ symbols =
     ∷ record { address = 0x48; name = codes "save" }
     ∷ record { address = 0x64; name = codes "restore" }
     ∷ record { address = 0x78; name = codes "loop" }
-    ∷ record { address = 0x88; name = codes "through" }
+    ∷ record { address = 0x88; name = codes "unknown" }
     ∷ []
 
 -- from address 144 on: main's frame ends at 256, and has there its caller's s0, 0, and its return address, 12;

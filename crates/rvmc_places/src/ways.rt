@@ -130,6 +130,7 @@ fn jalr(rd: Reg, rs1: Reg, off: i32, spot: Spot) -> Progress
             let target = offset(spot.hart.get(Reg::new(5)), off);
             goes_to(target, spot)
         }
+        (0, _) => goes_on(spot),
         _ => Progress::Lost,
     }
 }
