@@ -1,9 +1,9 @@
 -- A verdict names those of its ranks that have a hart that waits.
-use Rattle.std.proofs.Common.{◌≡◌, ◌∙◌, ◌<◌, ◌≤◌, ◌⊎◌, ◌+◌, ◌==◌, ◌&&◌, ◌||◌, ℕ, zero, suc, refl, sym, ap, subst, inl, inr, arith}
+use Rattle.std.proofs.Common.{◌≡◌, ◌∙◌, ◌<◌, ◌≤◌, ◌⊎◌, ◌==◌, ◌&&◌, ℕ, zero, suc, refl, sym, ap, subst, inl, inr, arith}
 use Rattle.std.proofs.Common.{Bool, true, false, not, List, [], ◌∷◌, length, get_or, Option, Some, None}
 use Rattle.std.specs.Prelude.{IsTrue, T}
 use Rattle.std.specs.List.{list_any, slice_get}
-use Rattle.std.proofs.lemmas.Bool.{and_from, and_parts, both_ways, cases_lt, eq-eqb, eqb-true, or_cases, or_left}
+use Rattle.std.proofs.lemmas.Bool.{and_from, and_parts, cases_lt, eq-eqb, eqb-true, or_cases, or_left}
 use Rattle.std.proofs.lemmas.List.{get_or_past}
 use Rattle.std.proofs.lemmas.List.Folds.{list_any_at}
 use Rattle.std.proofs.lemmas.Map.Views.{any-filter_same}
@@ -25,7 +25,7 @@ use Rattle.rvmc_tool_laws.specs.Answers.{NamesWhoWaits}
 
 -- ---- a hart that waits has not stopped
 
-goes_on : State → Bool
+abbrev goes_on : State → Bool
 goes_on hart = not (is_stopped hart.mode)
 
 waits_on : (m : Mode) → IsWaiting m → not (is_stopped m) ≡ true

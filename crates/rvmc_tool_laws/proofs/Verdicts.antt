@@ -1,6 +1,5 @@
 -- The verdict that is told is right.
 use Rattle.std.proofs.Common.{take}
-use Rattle.rvmc_answers.specs.Whys.{IsWhyAt}
 use Rattle.cl_deadlock.specs.Why.{IsVerdictOf}
 use Rattle.rvmc_tool_laws.specs.Answers.{VerdictIsTrueLaw}
 use Rattle.rvmc_tool_laws.proofs.Naming.{names_who_waits}
