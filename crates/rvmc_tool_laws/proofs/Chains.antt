@@ -28,6 +28,7 @@ above symbols memory frame next is = by (caller_frame symbols memory frame) refl
       where
         risen_is : risen frame (Some found) ≡ Some next
         risen_is = sym (ap (risen frame) e) ∙ is
+
         higher : (b : Bool) → nat_lt frame.pointer found.pointer ≡ b
             → (frame.pointer < next.pointer) × (caller_frame symbols memory frame ≡ Some next)
         higher true lower =
