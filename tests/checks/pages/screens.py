@@ -80,7 +80,9 @@ def expect_screens(pages):
                 pages.browser.press("+")
         pages.expect(f"{name}: console", pages.browser.told(), [])
     titles = "[...document.querySelectorAll('[title]')].map(one => one.title)"
-    pages.expect("screens: titles", pages.browser.value(f"{titles}.filter(one => /\\blast\\b/.test(one)).join()"), "")
+    # a variable may have this name, but no text says it for the one before
+    said = f"{titles}.filter(one => /\\blast\\b/.test(one) && !/^how \\S+ is read$/.test(one))"
+    pages.expect("screens: titles", pages.browser.value(f"{said}.join()"), "")
     pages.browser.ask("Emulation.clearDeviceMetricsOverride")
     pages.browser.ask("Emulation.setEmulatedMedia", features=[])
 

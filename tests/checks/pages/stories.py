@@ -36,7 +36,7 @@ def expect_course(pages):
     with open(f"{TOP}/c/course/ring.image", "rb") as file:
         pages.open_record(pages.told(["one", "--record"], file.read())[1], 0)
     pages.browser.click("document.querySelector('#step999>use:last-of-type')")
-    pages.browser.type(element("address"), "0x7034")
+    pages.browser.type(element("address"), "0x13754")
     expect_first(pages, "course: the sum", 1000, ("65", "fresh"))
     told = pages.browser.value(f"{element('told-step')}.innerText")
     pages.expect("course: the step", "999 rank 2 " in told and "message from rank 1 " in told, True)
