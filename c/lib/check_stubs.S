@@ -3,6 +3,7 @@
 # Most accesses are right, and cost about ten turns here: below the heap nothing but the buffers of active requests is
 # looked at, and in the heap the block that was found last. All others go to rvmc_check_access. Behind the call is a trap:
 # a right access goes on four bytes further. Only t0 and t1 are touched.
+#include "functions.h"
         .cfi_sections .debug_frame
 
         .macro go_on
@@ -26,14 +27,6 @@
         ld t1, rvmc_check_block_length
         sub t0, a0, t0
         bgeu t0, t1, \slow
-        .endm
-
-        .macro begins name
-        .section .text.\name, "ax"
-        .globl \name
-        .type \name, @function
-\name:
-        .cfi_startproc
         .endm
 
         # A store of so many bytes.

@@ -3,24 +3,12 @@
 # traps. They leave ra, sp and s0 alone, so that a debugger finds the caller. A program may have its own, so they are weak.
 # No load leaves the 8 bytes, at a multiple of 8, that hold a byte which is asked for. A null pointer is reported where there
 # are bytes to be read or written.
+#include "functions.h"
 #include "null.h"
         .cfi_sections .debug_frame
 
-        .macro begins name
-        .section .text.\name, "ax"
-        .weak \name
-        .type \name, @function
-\name:
-        .cfi_startproc
-        .endm
-
-        .macro ends name
-        .cfi_endproc
-        .size \name, . - \name
-        .endm
-
 # a0 to, a1 from, a2 bytes.
-        begins memcpy
+        begins memcpy, weak
         beqz a2, .Lcopied
         beqz a0, .Lcopy_null
         beqz a1, .Lcopy_null
@@ -105,7 +93,7 @@
         is_null memcpy
         ends memcpy
 
-        begins memmove
+        begins memmove, weak
         beqz a2, .Lmoved
         beqz a0, 1f
         beqz a1, 1f
@@ -191,7 +179,7 @@
         ends memmove
 
 # a0 to, a1 the byte, a2 bytes. a3 goes on to a4.
-        begins memset
+        begins memset, weak
         beqz a2, 9f
         beqz a0, 10f
         mv a3, a0
@@ -233,7 +221,7 @@
         ends memset
 
 # a0 and a1 the sides, a2 bytes, a4 the end of a0. t0 and t1 are 8 bytes of each that may differ.
-        begins memcmp
+        begins memcmp, weak
         beqz a2, .Lsame
         beqz a0, .Lcompare_null
         beqz a1, .Lcompare_null
@@ -332,7 +320,7 @@
 
 # a0 the text, a2 where it is looked at. In 8 bytes of which none is 0, and none above 128, taking 1 from each byte leaves
 # all high bits clear; where one is set, the bytes themselves are looked at.
-        begins strlen
+        begins strlen, weak
         beqz a0, .Lno_text
         ld t0, .Lones
         mv a2, a0

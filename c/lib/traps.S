@@ -2,6 +2,7 @@
 # since the value of gp is known, so that it can be given back behind the call: `jal gp, rvmc_null_pointer`, as start.S and
 # rvmc-cc have it. What C may change stands on the stack meanwhile. A stack that has no room for it is full, and the store traps
 # for that.
+#include "functions.h"
         .cfi_sections .debug_frame
         .set KEPT, 144
 
@@ -24,19 +25,6 @@
         .cfi_offset \register, at - KEPT
         .set at, at + 8
         .endr
-        .endm
-
-        .macro begins name
-        .section .text.\name, "ax"
-        .globl \name
-        .type \name, @function
-\name:
-        .cfi_startproc
-        .endm
-
-        .macro ends name
-        .cfi_endproc
-        .size \name, . - \name
         .endm
 
         # Begins a function that is called by gp.
