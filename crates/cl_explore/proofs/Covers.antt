@@ -32,7 +32,7 @@ use Rattle.cl_contest_laws.specs.Lists.{IsOneOf}
 use Rattle.cl_contests.specs.Going.{IsSettledThere, LeadsOn}
 use Rattle.cl_contests.proofs.Below.{source_law}
 use Rattle.cl_explore.specs.How.{AreAlikeFor, AreAlikeIn, How, at_once, by_contest, plainly}
-use Rattle.cl_explore.specs.Covering.{AreJoined, AreLeads, AreNodes, Grows, HasLead, IsClosedAt, IsClosedFrom, IsReachedFrom, IsReachedTurn, LeadsGrow, Reaches}
+use Rattle.cl_explore.specs.Covering.{AreJoined, AreLeads, AreNodes, Grows, HasLead, HasLeadBy, IsClosedAt, IsClosedFrom, IsReachedFrom, IsReachedTurn, LeadsGrow, Reaches}
 use Rattle.cl_explore.specs.Searching.{Adds, Arrives, GoesOn, IsFoundIn}
 use Rattle.cl_explore.specs.declared.kept.KeptNode.{KeptNode}
 use Rattle.cl_explore.specs.declared.leads.Lead.{Lead}
@@ -194,16 +194,20 @@ reaches_in (by_contest contest) order nodes i node here at settled = (
 
 -- ---- moves that led somewhere
 
-pub lead_more : (leads more : List Lead) (i j : ℕ) → LeadsGrow leads more → HasLead leads i j → HasLead more i j
-lead_more leads more i j grows led = (led.0, led.1, grows led.0 led.1 led.2, led.3, led.4)
+-- a move of some rank is a move
+pub lead_of : (leads : List Lead) (r i j : ℕ) → HasLeadBy leads r i j → HasLead leads i j
+lead_of leads r i j led = (led.0, led.1, led.2, led.4, led.5)
 
-pub from_more : (how : How) (order : List ℕ) (leads longer : List Lead) (i : ℕ) (nodes more : List Node) (here : Node)
-    → Grows nodes more → LeadsGrow leads longer → IsReachedFrom how order leads i nodes here
-    → IsReachedFrom how order longer i more here
-from_more how order leads longer i nodes more here grows on reached = record {
+pub lead_more : (leads more : List Lead) (r i j : ℕ) → LeadsGrow leads more → HasLeadBy leads r i j → HasLeadBy more r i j
+lead_more leads more r i j grows led = (led.0, led.1, grows led.0 led.1 led.2, led.3, led.4, led.5)
+
+pub from_more : (how : How) (order : List ℕ) (leads longer : List Lead) (r i : ℕ) (nodes more : List Node) (here : Node)
+    → Grows nodes more → LeadsGrow leads longer → IsReachedFrom how order leads r i nodes here
+    → IsReachedFrom how order longer r i more here
+from_more how order leads longer r i nodes more here grows on reached = record {
   number = reached.number;
   next = reached.next;
-  led = lead_more leads longer i reached.number on reached.led;
+  led = lead_more leads longer r i reached.number on reached.led;
   there = grows reached.number reached.next reached.there;
   reaches = reached.reaches;
 }
@@ -212,7 +216,7 @@ pub turn_more : (how : How) (order : List ℕ) (leads longer : List Lead) (i : �
     (e : Step) → Grows nodes more → LeadsGrow leads longer → IsReachedTurn how order leads i nodes node e
     → IsReachedTurn how order longer i more node e
 turn_more how order leads longer i nodes more node e grows on reached = λ new is.
-    from_more how order leads longer i nodes more (node_of new (one_more node.had e.rank)) grows on (reached new is)
+    from_more how order leads longer e.rank i nodes more (node_of new (one_more node.had e.rank)) grows on (reached new is)
 
 pub closed_more : (how : How) (order : List ℕ) (leads longer : List Lead) (i : ℕ) (nodes more : List Node) (node : Node)
     (r : ℕ) → Grows nodes more → LeadsGrow leads longer → IsClosedFrom how order leads i nodes node r
@@ -220,7 +224,7 @@ pub closed_more : (how : How) (order : List ℕ) (leads longer : List Lead) (i :
 closed_more how order leads longer i nodes more node r grows on closed = λ rank at. elim (closed rank at) [
   | inl done ↦ inl done
   | inr reached ↦ inr (λ e new is hart turn.
-      from_more how order leads longer i nodes more (node_of new (one_more node.had r)) grows on (reached e new is hart turn))
+      from_more how order leads longer r i nodes more (node_of new (one_more node.had r)) grows on (reached e new is hart turn))
 ]
 
 -- a node that is closed so is closed over all nodes
@@ -242,7 +246,7 @@ leads_more how order nodes more leads grows are = λ k lead at.
 
 pub leads_on : (how : How) (order : List ℕ) (nodes : List Node) (leads : List Lead) (lead : Lead) (from to : Node)
     → AreLeads how order nodes leads → slice_get nodes lead.from ≡ Some from → slice_get nodes lead.to ≡ Some to
-    → AreJoined how order from to → AreLeads how order nodes (leads ++ lead ∷ [])
+    → AreJoined how order lead.rank from to → AreLeads how order nodes (leads ++ lead ∷ [])
 leads_on how order nodes leads lead from to are start end joined = λ k x at. elim (was_or_new leads lead k x at) [
   | inl was ↦ are k x was
   | inr new ↦
@@ -251,7 +255,7 @@ leads_on how order nodes leads lead from to are start end joined = λ k x at. el
         to,
         subst (λ (l : Lead). slice_get nodes l.from ≡ Some from) is start,
         subst (λ (l : Lead). slice_get nodes l.to ≡ Some to) is end,
-        joined,
+        subst (λ (l : Lead). AreJoined how order l.rank from to) is joined,
       )
 ]
 

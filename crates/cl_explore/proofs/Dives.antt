@@ -99,24 +99,25 @@ dives how order old new from number k live there at is ends adds same = (
 
 -- ---- what is told then
 
-abbrev pub told : List KeptNode → List ℕ → List Company → List Lead → ℕ → Bool → Findings
-told kept ends companies leads left may_wait = record {
+abbrev pub told : List KeptNode → List ℕ → List Company → List Lead → ℕ → Bool → List ℕ → Findings
+told kept ends companies leads left may_wait resting = record {
   kept = kept;
   ends = ends;
   companies = companies;
   leads = leads;
   left = left;
   may_wait = may_wait;
+  resting = resting;
 }
 
 module _ (image : ImageParts) (order : List ℕ) (start : Node) (kept more : List KeptNode) (last : KeptNode)
-    (ends : List ℕ) (companies : List Company) (leads : List Lead) (left number : ℕ) (may_wait : Bool)
+    (ends : List ℕ) (companies : List Company) (leads : List Lead) (left number : ℕ) (may_wait : Bool) (resting : List ℕ)
     (longer : more ≡ kept ++ last ∷ []) where
   abbrev before : Findings
-  before = told kept ends companies leads left may_wait
+  before = told kept ends companies leads left may_wait resting
 
   abbrev after : Findings
-  after = told more (ends ++ number ∷ []) companies leads (left + 1) may_wait
+  after = told more (ends ++ number ∷ []) companies leads (left + 1) may_wait resting
 
   module _ (e : ExploredFrom image order start before) (nodes : List Node) (grows : Grows e.nodes nodes)
       (are : AreNodes image order more nodes) (is_end : IsEndAt order nodes number) where
@@ -164,6 +165,11 @@ module _ (image : ImageParts) (order : List ℕ) (start : Node) (kept more : Lis
         all = λ none. absurd (omega (arith, none));
         waits = e.waits;
         unneeded = λ right is i node visited. e.unneeded right is i node (was i node visited);
+        counted =
+            let so = e.counted in
+            let long = ap length longer ∙ length-append kept (last ∷ []) in
+            omega (arith, so, long);
+        rested = λ right is i node visited. e.rested right is i node (was i node visited);
       },
       refl,
     )
@@ -173,11 +179,12 @@ ToldFrom how image order start found = (e : ExploredFrom image order start found
 
 -- the end of the schedule is told beside what was told before, from whichever node the search began at
 pub still_explores : (how : How) (order : List ℕ) (old new : Search) (from number : ℕ) (ends : List ℕ)
-    (companies : List Company) (left after : ℕ) (may_wait : Bool) → Dives how order old from new (Some number)
+    (companies : List Company) (left after : ℕ) (may_wait : Bool) (resting : List ℕ)
+    → Dives how order old from new (Some number)
     → from + left ≡ length old.nodes.items → (left ≡ 0 → ⊥) → after ≡ left + 1
-    → StillExplores how order (told old.nodes.items ends companies old.leads.items left may_wait)
-    (told new.nodes.items (ends ++ number ∷ []) companies new.leads.items after may_wait)
-still_explores how order old new from number ends companies left after may_wait dives at some is =
+    → StillExplores how order (told old.nodes.items ends companies old.leads.items left may_wait resting)
+    (told new.nodes.items (ends ++ number ∷ []) companies new.leads.items after may_wait resting)
+still_explores how order old new from number ends companies left after may_wait resting dives at some is =
     λ standing explores image here stands way may.
     let v = explores image here stands way may in
     let e = v.0 in
@@ -186,11 +193,11 @@ still_explores how order old new from number ends companies left after may_wait 
     let node = at_inside e.nodes from inside in
     let far = dives.1 image e.nodes node.0 (record { are = e.are; leads = leads }) node.1 in
     let x = tells_more image order here old.nodes.items new.nodes.items (dives.0).0 ends companies old.leads.items left number
-    may_wait (dives.0).1 e far.more far.grows (far.found).are far.holds in
+    may_wait resting (dives.0).1 e far.more far.grows (far.found).are far.holds in
     subst (λ n. ToldFrom how image order here
-    (told new.nodes.items (ends ++ number ∷ []) companies new.leads.items n may_wait)) (sym is)
+    (told new.nodes.items (ends ++ number ∷ []) companies new.leads.items n may_wait resting)) (sym is)
     (subst (λ ls. ToldFrom how image order here
-    (told new.nodes.items (ends ++ number ∷ []) companies ls (left + 1) may_wait)) (sym (dives.0).2) (x.0, x.1 ∙ v.1))
+    (told new.nodes.items (ends ++ number ∷ []) companies ls (left + 1) may_wait resting)) (sym (dives.0).2) (x.0, x.1 ∙ v.1))
 
 -- ---- where it was cut
 
@@ -210,12 +217,12 @@ still_bounded states enough most kept more last left after longer some is (inr (
 
 -- nothing was found
 pub same_explores : (how : How) (order : List ℕ) (old new : Search) (from : ℕ) (ends : List ℕ) (companies : List Company)
-    (left : ℕ) (may_wait : Bool) → Dives how order old from new None
-    → StillExplores how order (told old.nodes.items ends companies old.leads.items left may_wait)
-    (told new.nodes.items ends companies new.leads.items left may_wait)
-same_explores how order old new from ends companies left may_wait same = λ standing explores.
-    subst (λ ks. ExploresFrom how order standing (told ks ends companies new.leads.items left may_wait)) (sym same.0)
-    (subst (λ ls. ExploresFrom how order standing (told old.nodes.items ends companies ls left may_wait)) (sym same.1)
+    (left : ℕ) (may_wait : Bool) (resting : List ℕ) → Dives how order old from new None
+    → StillExplores how order (told old.nodes.items ends companies old.leads.items left may_wait resting)
+    (told new.nodes.items ends companies new.leads.items left may_wait resting)
+same_explores how order old new from ends companies left may_wait resting same = λ standing explores.
+    subst (λ ks. ExploresFrom how order standing (told ks ends companies new.leads.items left may_wait resting)) (sym same.0)
+    (subst (λ ls. ExploresFrom how order standing (told old.nodes.items ends companies ls left may_wait resting)) (sym same.1)
     explores)
 
 pub longer_by : (how : How) (order : List ℕ) (old new : Search) (from number : ℕ) → Dives how order old from new (Some number)

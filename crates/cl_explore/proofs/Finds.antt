@@ -1,8 +1,8 @@
 -- The search as a whole.
-use Rattle.std.specs.Prelude.{ℕ, zero, suc, ◌+◌, ◌<◌, ◌≤◌, ◌≡◌, ◌⊎◌, List, [], ◌∷◌, ◌++◌, length, option_map, reverse, slice_get, Option, None, Some, Bool, true, false, Result, Ok, Err, IfOk, IfSome, is_some, map}
+use Rattle.std.specs.Prelude.{ℕ, zero, suc, ◌+◌, ◌-◌, ◌<◌, ◌≤◌, ◌≡◌, ◌⊎◌, List, [], ◌∷◌, ◌++◌, length, option_map, reverse, slice_get, Option, None, Some, Bool, true, false, Result, Ok, Err, IfOk, IfSome, is_some, map}
 use Rattle.std.proofs.Common.{refl, sym, ap, ◌∙◌, subst, arith, inl, inr}
 use Rattle.std.proofs.lemmas.Bool.{cases_eq}
-use Rattle.std.proofs.lemmas.List.{reverse-append, reverse-reverse}
+use Rattle.std.proofs.lemmas.List.{length-append, reverse-append, reverse-reverse}
 use Rattle.std.proofs.lemmas.Option.{same_Some, slice_get_within}
 use Rattle.rv_image_types.specs.declared.images.ImageParts.{ImageParts}
 use Rattle.cl_machine.specs.declared.steps.Step.{Step}
@@ -33,10 +33,10 @@ use Rattle.cl_contests.specs.Below.{WaitsWithin}
 use Rattle.cl_contests.specs.declared.patterns.AskedBy.{AskedBy}
 use Rattle.cl_contest_laws.specs.Below.{IsReachable}
 use Rattle.cl_rests.specs.Needing.{IsNoNeed}
-use Rattle.cl_rests.specs.Telling.{HaveOneHart, IsNeedVerdict}
+use Rattle.cl_rests.specs.Telling.{AreResting, HaveOneHart, IsNeedVerdict}
 use Rattle.cl_explore.specs.How.{HasRoom, How, IsFitFor, MayBegin, at_once, by_contest, plainly, waits_in}
 use Rattle.cl_explore.specs.Covering.{AreLeads, AreNodes, HasRoomAt, IsClosedAt, IsClosedFrom, Reaches}
-use Rattle.cl_explore.specs.Ends.{AreAlikeEnds, AreAllEnds, AreTurnsTo, BeginsAt, BeginsWell, Explored, ExploredBehind, ExploredFrom, ExploresFrom, Findings, IsBounded, Notes}
+use Rattle.cl_explore.specs.Ends.{AreAlikeEnds, AreAllEnds, AreRestingAt, AreTurnsTo, BeginsAt, BeginsWell, Explored, ExploredBehind, ExploredFrom, ExploresFrom, Findings, IsBounded, Notes}
 use Rattle.cl_explore.specs.Orders.{IsLedBy, named}
 use Rattle.cl_explore.specs.Searching.{AreFound, Arrives, FindsMore, GoesOn, IsVisited, KeepsOf}
 use Rattle.cl_explore.specs.declared.companies.Company.{Company}
@@ -74,7 +74,7 @@ begins how order none new number start there empty still ahead arrives = λ imag
 -- ---- so many nodes were visited
 
 pub record SoFar (how : How) (image : ImageParts) (order : List ℕ) (start : Node) (search : Search)
-    (ends : List ℕ) (companies : List Company) (done : ℕ) : Type 0 where
+    (ends : List ℕ) (companies : List Company) (resting : List ℕ) (done : ℕ) : Type 0 where
   pub nodes : List Node
   pub found : AreFound how image order search nodes
   pub start_is : Reaches how order nodes start
@@ -92,11 +92,14 @@ pub record SoFar (how : How) (image : ImageParts) (order : List ℕ) (start : No
       → IsJudged companies i node.cluster
   pub unneeded : IsImage image → waits_in how ≡ true → (i : ℕ) (node : Node) → i < done → slice_get nodes i ≡ Some node
       → HaveOneHart node.cluster → IsNoNeed node.cluster
+  pub counted : length resting ≡ done
+  pub rested : IsImage image → waits_in how ≡ true → (i : ℕ) (node : Node) → i < done → slice_get nodes i ≡ Some node
+      → AreRestingAt resting i node.cluster
 
 pub none_so_far : (how : How) (image : ImageParts) (order : List ℕ) (start : Node) (search : Search)
-    (ends : List ℕ) (companies : List Company) → BeginsWell how image order start search → ends ≡ [] → companies ≡ []
-    → SoFar how image order start search ends companies 0
-none_so_far how image order start search ends companies begun none nobody = record {
+    (ends : List ℕ) (companies : List Company) (resting : List ℕ) → BeginsWell how image order start search → ends ≡ []
+    → companies ≡ [] → resting ≡ [] → SoFar how image order start search ends companies resting 0
+none_so_far how image order start search ends companies resting begun none nobody still = record {
   nodes = begun.nodes;
   found = record {
     are = begun.are;
@@ -114,6 +117,8 @@ none_so_far how image order start search ends companies begun none nobody = reco
       let no : slice_get [] k ≡ Some company = subst (λ xs. slice_get xs k ≡ Some company) nobody at in absurd (cc);
   judged = λ right i node low at. absurd (omega (arith, low));
   unneeded = λ right waits i node low at one. absurd (omega (arith, low));
+  counted = ap length still;
+  rested = λ right waits i node low at. absurd (omega (arith, low));
 }
 
 -- ---- companies that are noted
@@ -164,6 +169,17 @@ no_need : {A : Type 0} (items : A → List ℕ) (cluster : Cluster) (need : Opti
 no_need items cluster None none verdict = verdict
 no_need items cluster (Some ranks) none verdict = absurd (cc)
 
+-- ---- ranks that rest
+
+resting_still : (resting : List ℕ) (set i : ℕ) (cluster : Cluster) → AreRestingAt resting i cluster
+    → AreRestingAt (resting ++ set ∷ []) i cluster
+resting_still resting set i cluster are = (are.0, stays_at resting set i are.0 are.1, are.2)
+
+resting_now : (resting : List ℕ) (set i : ℕ) (cluster : Cluster) → length resting ≡ i → AreResting set cluster
+    → AreRestingAt (resting ++ set ∷ []) i cluster
+resting_now resting set i cluster is are =
+    (set, subst (λ j. slice_get (resting ++ set ∷ []) j ≡ Some set) is (at_last resting set), are)
+
 -- ---- one node more
 
 -- the ends are told so far, and of the node itself if it is one
@@ -188,7 +204,8 @@ ends_noted ends now done false notes = subst (λ xs. EndsNoted ends xs done fals
 })
 
 module _ (how : How) (image : ImageParts) (order : List ℕ) (start : Node) (old new : Search) (ends now : List ℕ)
-    (companies after : List Company) (done : ℕ) (explored : SoFar how image order start old ends companies done)
+    (companies after : List Company) (resting rest : List ℕ) (done : ℕ)
+    (explored : SoFar how image order start old ends companies resting done)
     (inside : done < length old.nodes.items) (room : HasRoomAt how old.nodes.items done) (visit : Visit)
     (visits : KeepsOf how order old done new (IsVisited how order new.leads.items done visit)) where
   abbrev nodes : List Node
@@ -226,9 +243,10 @@ module _ (how : How) (image : ImageParts) (order : List ℕ) (start : Node) (old
       let low = slice_get_within far.more done node.0 there in omega (arith, low, ((far.found).are).many)
 
   pub more : Notes ends visit.end done now
-      → NotesStuck companies (option_map (λ ranks. ranks.items) visit.stuck) done after → is_some visit.need ≡ false
-      → SoFar how image order start new now after (done + 1)
-  more ended stuck none =
+      → NotesStuck companies (option_map (λ ranks. ranks.items) visit.stuck) done after
+      → rest ≡ resting ++ visit.resting ∷ [] → is_some visit.need ≡ false
+      → SoFar how image order start new now after rest (done + 1)
+  more ended stuck behind none =
       let noted = ends_noted ends now done visit.end ended in
       record {
         nodes = far.more;
@@ -270,6 +288,13 @@ module _ (how : How) (image : ImageParts) (order : List ℕ) (start : Node) (old
             each (λ j y. HaveOneHart y.cluster → IsNoNeed y.cluster)
             (λ one. no_need (λ ranks. ranks.items) (node.0).cluster visit.need none ((far.holds).need right one waits))
             (explored.unneeded right waits);
+        counted = ap length behind ∙ (length-append resting (visit.resting ∷ []) ∙ ap (λ n. n + 1) explored.counted);
+        rested = λ right waits.
+            each (λ j y. AreRestingAt rest j y.cluster)
+            (subst (λ rs. AreRestingAt rs done (node.0).cluster) (sym behind)
+            (resting_now resting visit.resting done (node.0).cluster explored.counted ((far.holds).resting right waits)))
+            (λ j y less was. subst (λ rs. AreRestingAt rs j y.cluster) (sym behind)
+            (resting_still resting visit.resting j y.cluster (explored.rested right waits j y less was)));
       }
 
 -- ---- in the end
@@ -346,7 +371,7 @@ covered_ends plainly order nodes start here cov reach begins room closed few fit
     (room_covered plainly order start here cov room) closed few fit
 
 module _ (how : How) (image : ImageParts) (order : List ℕ) (start : Node) (search : Search) (found : Findings)
-    (done : ℕ) (explored : SoFar how image order start search found.ends found.companies done)
+    (done : ℕ) (explored : SoFar how image order start search found.ends found.companies found.resting done)
     (kept : found.kept ≡ search.nodes.items) (leads : found.leads ≡ search.leads.items)
     (may_wait : found.may_wait ≡ waits_in how) (came : IsFound image order start)
     (room : HasRoom how (hub_of start.cluster.journal)) (begins_well : MayBegin how order start) where
@@ -368,7 +393,7 @@ module _ (how : How) (image : ImageParts) (order : List ℕ) (start : Node) (sea
       let k = explored.all one.0 one.1 (low one.0 one.1 one.2) one.2 one.3 in
       (k.0, one.0, one.1, k.1, one.2, one.4)
 
-  pub tells_all : length search.nodes.items ≤ done + found.left
+  pub tells_all : length search.nodes.items ≡ done + found.left
       → (e : ExploredFrom image order start found) × (e.how ≡ how)
   tells_all many = (
     record {
@@ -396,6 +421,9 @@ module _ (how : How) (image : ImageParts) (order : List ℕ) (start : Node) (sea
           (one_of_other image order start node came
           (node_found image order search.nodes.items them (explored.found).are i node visited.1)
           (one_at_start how order start (sym may_wait ∙ is) begins_well));
+      counted = ap (λ n. n + found.left) explored.counted ∙ (sym many ∙ ap length (sym kept));
+      rested = λ right is i node visited.
+          explored.rested right (sym may_wait ∙ is) i node (low i visited.0) visited.1;
     },
     refl,
   )
@@ -406,43 +434,47 @@ module _ (how : How) (image : ImageParts) (order : List ℕ) (start : Node) (sea
 -- ---- from whichever node the search begins at
 
 -- so it is, and the moves of no more nodes were made than are there
-abbrev pub SoFarFrom : How → List ℕ → Standing → Search → List ℕ → List Company → ℕ → Type 0
-SoFarFrom how order standing search ends companies done =
+abbrev pub SoFarFrom : How → List ℕ → Standing → Search → List ℕ → List Company → List ℕ → ℕ → Type 0
+SoFarFrom how order standing search ends companies resting done =
     (image : ImageParts) (here : Node) → StandsAt image standing here
     → IsWay (by_order order) (first_node image) standing.steps.items here
-    → SoFar how image order here search ends companies done × (done ≤ length search.nodes.items)
+    → SoFar how image order here search ends companies resting done × (done ≤ length search.nodes.items)
 
 pub none_from : (how : How) (order : List ℕ) (standing : Standing) (search : Search) (ends : List ℕ)
-    (companies : List Company) → BeginsAt how order standing search → ends ≡ [] → companies ≡ []
-    → SoFarFrom how order standing search ends companies 0
-none_from how order standing search ends companies begun none nobody = λ image here stands way. (
-  none_so_far how image order here search ends companies (begun image here stands way) none nobody,
+    (companies : List Company) (resting : List ℕ) → BeginsAt how order standing search → ends ≡ [] → companies ≡ []
+    → resting ≡ [] → SoFarFrom how order standing search ends companies resting 0
+none_from how order standing search ends companies resting begun none nobody still = λ image here stands way. (
+  none_so_far how image order here search ends companies resting (begun image here stands way) none nobody still,
   omega (arith),
 )
 
 pub more_from : (how : How) (order : List ℕ) (standing : Standing) (old new : Search) (ends now : List ℕ)
-    (companies after : List Company) (done : ℕ) → SoFarFrom how order standing old ends companies done
+    (companies after : List Company) (resting rest : List ℕ) (done : ℕ)
+    → SoFarFrom how order standing old ends companies resting done
     → done < length old.nodes.items → HasRoomAt how old.nodes.items done → (visit : Visit)
     → KeepsOf how order old done new (IsVisited how order new.leads.items done visit) → Notes ends visit.end done now
-    → NotesStuck companies (option_map (λ ranks. ranks.items) visit.stuck) done after → is_some visit.need ≡ false
-    → SoFarFrom how order standing new now after (done + 1)
-more_from how order standing old new ends now companies after done so_far inside room visit visits notes stuck none =
+    → NotesStuck companies (option_map (λ ranks. ranks.items) visit.stuck) done after
+    → rest ≡ resting ++ visit.resting ∷ [] → is_some visit.need ≡ false
+    → SoFarFrom how order standing new now after rest (done + 1)
+more_from how order standing old new ends now companies after resting rest done so_far inside room visit visits notes stuck behind none =
     λ image here stands way.
     let s = so_far image here stands way in
-    let still = still_inside how image order here old new ends now companies after done s.0 inside room visit visits in (
-      more how image order here old new ends now companies after done s.0 inside room visit visits notes stuck none,
+    let still = still_inside how image order here old new ends now companies after resting rest done s.0 inside room visit visits in (
+      more how image order here old new ends now companies after resting rest done s.0 inside room visit visits notes stuck
+          behind none,
       omega (arith, still),
     )
 
 pub tells_from : (how : How) (order : List ℕ) (standing : Standing) (search : Search) (found : Findings)
     (done : ℕ) → HasRoom how standing.whole
-    → SoFarFrom how order standing search found.ends found.companies done → found.kept ≡ search.nodes.items
+    → SoFarFrom how order standing search found.ends found.companies found.resting done → found.kept ≡ search.nodes.items
     → found.leads ≡ search.leads.items → found.may_wait ≡ waits_in how
-    → length search.nodes.items ≤ done + found.left
+    → found.left ≡ length search.nodes.items - done
     → ExploresFrom how order standing found
 tells_from how order standing search found done room so_far kept leads may_wait many = λ image here stands way begins_well.
-    tells_all how image order here search found done (so_far image here stands way).0 kept leads may_wait
-    (standing.steps.items, way) (subst (HasRoom how) stands.whole room) begins_well many
+    let s = so_far image here stands way in
+    tells_all how image order here search found done s.0 kept leads may_wait
+    (standing.steps.items, way) (subst (HasRoom how) stands.whole room) begins_well (omega (arith, many, s.1))
 
 -- from the loaded cluster
 pub explored_start : (how : How) (image : ImageParts) (order : List ℕ) (standing : Standing) (found : Findings)

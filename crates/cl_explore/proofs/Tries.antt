@@ -1,15 +1,18 @@
 -- Moves of a node, one after another.
 use Rattle.std.specs.Prelude.{ℕ, ◌+◌, ◌<◌, ◌≤◌, ◌≡◌, ◌⊎◌, List, [], ◌∷◌, ◌++◌, length, min, option_map, slice_get, Some, true}
-use Rattle.std.proofs.Common.{sym, ap, ◌∙◌, subst, arith, inl, inr}
+use Rattle.std.proofs.Common.{refl, sym, ap, ◌∙◌, subst, arith, inl, inr}
 use Rattle.std.proofs.lemmas.Bool.{cases_eq}
 use Rattle.std.proofs.lemmas.List.{length-map}
 use Rattle.std.proofs.lemmas.Option.{same_Some, slice_get_within}
+use Rattle.rv_image_types.specs.Image.{IsImage}
 use Rattle.rv_image_types.specs.declared.images.ImageParts.{ImageParts}
 use Rattle.cl_deeds.specs.Orders.{in_slot}
+use Rattle.cl_deadlock_laws.proofs.Reached.{comes_reached}
+use Rattle.cl_machine.specs.Cluster.{Cluster, IsRun, loaded_cluster}
 use Rattle.cl_machine.specs.declared.steps.Step.{Step}
 use Rattle.cl_machine.proofs.Tables.{step_once}
 use Rattle.cl_order_laws.specs.Closed.{IsDone, Node, one_more}
-use Rattle.cl_order_laws.proofs.Steps.{below_law}
+use Rattle.cl_order_laws.proofs.Steps.{below_law, step_leads}
 use Rattle.cl_state.specs.declared.state.RankState.{RankState}
 use Rattle.cl_state.specs.Rank.{Rank}
 use Rattle.cl_state.specs.Room.{rank_of}
@@ -19,9 +22,9 @@ use Rattle.cl_moves.specs.Standing.{HasNoTurn, IsNextHart, StandsAt, Took, by_or
 use Rattle.cl_moves.specs.declared.standing.Standing.{Standing}
 use Rattle.cl_explore.specs.Kept.{HaveStayed, IsLiveAt, IsLiveOf, KeptStandsAt}
 use Rattle.cl_deadlock.specs.Why.{IsDeadlockVerdict}
-use Rattle.cl_rests.specs.Telling.{TellsNeed}
+use Rattle.cl_rests.specs.Telling.{TellsNeed, TellsResting}
 use Rattle.cl_explore.specs.How.{How, IsFitFor, waits_in}
-use Rattle.cl_explore.specs.Covering.{AreNodes, IsClosedFrom, IsReachedFrom, IsReachedTurn, LeadsGrow, Reaches, AreLeads}
+use Rattle.cl_explore.specs.Covering.{AreJoined, AreNodes, IsClosedFrom, IsReachedFrom, IsReachedTurn, LeadsGrow, Reaches, AreLeads}
 use Rattle.cl_explore.specs.Searching.{AreClosedBelow, ArePlanned, Arrives, ClosesRank, Goes, GoesEach, GoesOn, IsVisited, KeepsAt, KeepsOf}
 use Rattle.cl_explore.specs.declared.kept.KeptNode.{KeptNode}
 use Rattle.cl_explore.specs.declared.leads.Lead.{Lead}
@@ -78,11 +81,11 @@ module _ (order : List ℕ) (old : List KeptNode) (n : ℕ) (k : KeptNode) (at :
 
 -- it has: where it leads is kept, or alike a node, to which a move led, and then the standing is at the node again
 pub goes_on : (how : How) (order : List ℕ) (old new : Search) (n number : ℕ) (lead : Lead) (e : Step)
-    (live mid there after : Standing) → lead.from ≡ n → lead.to ≡ number → new.leads.items ≡ old.leads.items ++ lead ∷ []
+    (live mid there after : Standing) → lead.rank ≡ e.rank → lead.from ≡ n → lead.to ≡ number → new.leads.items ≡ old.leads.items ++ lead ∷ []
     → Took live e mid → GoesOn how order mid there → Arrives how order old.nodes.items n there new.nodes.items number
     → ((k : KeptNode) → slice_get new.nodes.items n ≡ Some k → HaveStayed k there → IsLiveOf k after)
     → Goes how order old n live e new after
-goes_on how order old new n number lead e live mid there after from to longer took ahead arrives back =
+goes_on how order old new n number lead e live mid there after by from to longer took ahead arrives back =
     λ image nodes node found here at planned.
     let plans = by_order order in
     let led = took image plans node node at.stands (no_way plans node live.steps.items at.steps) planned.0 in
@@ -106,7 +109,18 @@ goes_on how order old new n number lead e live mid there after from to longer to
           leads = subst (AreLeads how order kept.more) (sym longer)
               (leads_on how order kept.more old.leads.items lead node next
               (leads_more how order nodes kept.more old.leads.items kept.grows found.leads) start stop
-              (record { steps = there.steps.items; there = far.0; way = far.2; alike = (kept.holds).2 }));
+              (subst (λ r. AreJoined how order r node next) (sym by) (record {
+                steps = there.steps.items;
+                there = far.0;
+                way = far.2;
+                alike = (kept.holds).2;
+                first = e;
+                new = led.0;
+                own = refl;
+                planned = planned.0;
+                leads = step_leads node.cluster led.0 e led.1;
+                reaches = far.3 next (kept.holds).2;
+              })));
         };
         leads = λ i x was. subst (λ ls. slice_get ls i ≡ Some x) (sym longer) (stays_at old.leads.items lead i x was);
         holds = λ new_cluster leads.
@@ -120,6 +134,7 @@ goes_on how order old new n number lead e live mid there after from to longer to
                 lead,
                 subst (λ ls. slice_get ls (length old.leads.items) ≡ Some lead) (sym longer)
                     (at_last old.leads.items lead),
+                by,
                 from,
                 to,
               );
@@ -279,13 +294,19 @@ closed_by how order old new n live after rank hart turns next all own goes = λ 
         leads = far.leads;
         holds = λ x here. inr (λ e new_cluster is its leads.
             let one = all image node.cluster new_cluster e (at.stands).stands is (its ∙ sym hart_is) leads in
-            subst (λ r. IsReachedFrom how order new.leads.items n far.more (node_of new_cluster (one_more node.had r))) is
+            subst (λ r. IsReachedFrom how order new.leads.items r n far.more (node_of new_cluster (one_more node.had r))) is
             (far.holds one.0 e one.1 new_cluster leads));
       },
       both.1,
     )
 
 -- ---- all ranks
+
+-- a cluster that was reached from an image has at most 8
+few_of : (image : ImageParts) (c : Cluster) (steps : List Step) → IsRun (loaded_cluster image) steps c → IsImage image
+    → length c.ranks ≤ 8
+few_of image c steps run right =
+    let comes = comes_reached image steps c run in let few = right.few_ranks in omega (arith, comes.count, few)
 
 -- where a standing is the node, its first so many ranks are closed
 abbrev pub ClosesBelow : How → List ℕ → Search → ℕ → Standing → ℕ → Search → Standing → Type 0
@@ -334,10 +355,11 @@ pub visited : (how : How) (order : List ℕ) (old new : Search) (n : ℕ) (k : K
     → min (length live.cluster.ranks.items) 255 ≤ count → TellsEnd live.cluster order visit.end
     → IsDeadlockVerdict after.cluster (option_map (λ ranks. ranks.items) visit.stuck)
     → (waits_in how ≡ true → TellsNeed after (option_map (λ ranks. ranks.items) visit.need))
+    → (waits_in how ≡ true → TellsResting after visit.resting)
     → ((image : ImageParts) (here : Node) → StandsAt image live here → IsFitFor how here.cluster)
     → ClosesBelow how order old n live count new after
     → KeepsOf how order old n new (IsVisited how order new.leads.items n visit)
-visited how order old new n k at live after is count visit enough tells verdict needs fits below = λ image nodes node found there.
+visited how order old new n k at live after is count visit enough tells verdict needs rest fits below = λ image nodes node found there.
     let here = live_at order old.nodes.items n k at live is image nodes node found.are there in
     let stands = here.stands in
     let both = below image nodes node found there here tt in
@@ -360,5 +382,6 @@ visited how order old new n k at live after is count visit enough tells verdict 
             (record { right = right; reached = (way.0, (way.1).run); stands = ((both.1).stands).stands });
         fit = fits image node stands;
         need = λ right one waits. needs waits image node right (way.0, (way.1).run) (both.1).stands one;
+        resting = λ right waits. rest waits image node (both.1).stands (few_of image node.cluster way.0 (way.1).run right);
       };
     }

@@ -10,6 +10,7 @@ use Rattle.cl_order_laws.specs.Closed.{FollowPlans, IsEnd, Node}
 use Rattle.cl_contests.specs.Below.{Wild}
 use Rattle.cl_contests.specs.Below.{AreAlike}
 use Rattle.cl_rests.specs.Needing.{IsNoNeed}
+use Rattle.cl_rests.specs.Telling.{AreResting}
 use Rattle.cl_moves.specs.Standing.{IsWay, StandsAt, by_order, first_node}
 use Rattle.cl_moves.specs.declared.standing.Standing.{Standing}
 use Rattle.cl_explore.specs.Companies.{IsCompanyAt, IsJudged}
@@ -42,7 +43,8 @@ AreAllEnds order start nodes ends =
     × AreAlikeEnds end node.cluster
 
 -- what a search found: the nodes that are kept, which of them are ends, which ranks are stuck in which of them, between
--- which of them moves led, how many are left whose moves weren't made, and whether standard sends might wait in it
+-- which of them moves led, how many are left whose moves weren't made, whether standard sends might wait in it, and then which
+-- ranks rest in each node whose moves were made
 pub record Findings : Type 0 where
   pub kept : List KeptNode
   pub ends : List ℕ
@@ -50,6 +52,7 @@ pub record Findings : Type 0 where
   pub leads : List Lead
   pub left : ℕ
   pub may_wait : Bool
+  pub resting : List ℕ
 
 abbrev pub findings : Exploration → Findings
 findings found = record {
@@ -59,17 +62,22 @@ findings found = record {
   leads = found.leads.items;
   left = found.left;
   may_wait = found.may_wait;
+  resting = found.resting.items;
 }
 
 -- the node of this number is one whose moves were made: all but the last ones
 abbrev pub IsVisitedNode : List Node → ℕ → ℕ → Node → Type 0
 IsVisitedNode nodes left i node = (i + left < length nodes) × (slice_get nodes i ≡ Some node)
 
+-- the ranks that rest in the node of this number are noted
+abbrev pub AreRestingAt : List ℕ → ℕ → Cluster → Type 0
+AreRestingAt resting i cluster = (set : ℕ) × (slice_get resting i ≡ Some set) × AreResting set cluster
+
 -- what is kept are nodes to each of which its turns led, they reach the start, those whose moves were made are closed over
 -- them, with few posts where calls for what is there are made at once, and moves led between them; the ends are ends, and
 -- each of those that is one is told; the companies are the most ranks that are stuck together in a node, and each is told
 -- of those; and where no node is left the ends are all. Where standard sends might wait for their receives, no ranks need
--- buffers in a node whose moves were made
+-- buffers in a node whose moves were made, and it is noted which ranks rest there
 pub record ExploredFrom (image : ImageParts) (order : List ℕ) (start : Node) (found : Findings) : Type 0 where
   pub nodes : List Node
   pub are : AreNodes image order found.kept nodes
@@ -94,6 +102,9 @@ pub record ExploredFrom (image : ImageParts) (order : List ℕ) (start : Node) (
   pub waits : found.may_wait ≡ true → MayWaitIn how
   pub unneeded : IsImage image → found.may_wait ≡ true → (i : ℕ) (node : Node) → IsVisitedNode nodes found.left i node
       → IsNoNeed node.cluster
+  pub counted : length found.resting + found.left ≡ length found.kept
+  pub rested : IsImage image → found.may_wait ≡ true → (i : ℕ) (node : Node) → IsVisitedNode nodes found.left i node
+      → AreRestingAt found.resting i node.cluster
 
 -- from the loaded cluster
 abbrev pub Explored : ImageParts → List ℕ → Findings → Type 0

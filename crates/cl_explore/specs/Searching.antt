@@ -9,7 +9,7 @@ use Rattle.cl_order_laws.specs.Closed.{IsEnd, Node}
 use Rattle.cl_order_laws.specs.Laws.{IsReached}
 use Rattle.cl_moves.specs.Standing.{IsWay, StandsAt, by_order}
 use Rattle.cl_moves.specs.declared.standing.Standing.{Standing}
-use Rattle.cl_rests.specs.Telling.{HaveOneHart, IsNeedVerdict}
+use Rattle.cl_rests.specs.Telling.{AreResting, HaveOneHart, IsNeedVerdict}
 use Rattle.cl_explore.specs.How.{AreAlikeFor, How, IsFitFor, waits_in}
 use Rattle.cl_explore.specs.Kept.{AreSamePlaces, IsAlikeKept, IsBefore, IsLiveAt}
 use Rattle.cl_explore.specs.Covering.{AreLeads, AreNodes, Grows, IsAlikeAt, IsClosedFrom, IsReachedTurn, LeadsGrow, Reaches}
@@ -116,7 +116,7 @@ abbrev pub AreClosedBelow : How → List ℕ → List Lead → ℕ → ℕ → L
 AreClosedBelow how order leads n count nodes node = (r : ℕ) → r < count → IsClosedFrom how order leads n nodes node r
 
 -- each rank is, and it is told whether nobody goes on, and which ranks are stuck; and all ranks may be let go there. Where
--- standard sends may wait for their receives it is told which ranks need buffers
+-- standard sends may wait for their receives it is told which ranks need buffers, and which rest
 pub record IsVisited (how : How) (order : List ℕ) (leads : List Lead) (n : ℕ) (visit : Visit) (image : ImageParts)
     (nodes : List Node) (node : Node) : Type 0 where
   pub closed : (r : ℕ) → IsClosedFrom how order leads n nodes node r
@@ -125,6 +125,7 @@ pub record IsVisited (how : How) (order : List ℕ) (leads : List Lead) (n : ℕ
   pub fit : IsFitFor how node.cluster
   pub need : IsImage image → HaveOneHart node.cluster → waits_in how ≡ true
       → IsNeedVerdict node.cluster (option_map (λ ranks. ranks.items) visit.need)
+  pub resting : IsImage image → waits_in how ≡ true → AreResting visit.resting node.cluster
 
 -- where a standing is the node, the rank is closed
 abbrev pub ClosesRank : How → List ℕ → Search → ℕ → Standing → ℕ → Search → Standing → Type 0

@@ -32,6 +32,7 @@ use cl_contests::{Patterns, add_waits, is_first_hart, may_start};
 use cl_lines::{Progress, put_progress};
 use cl_machine::Step;
 use cl_moves::{MoveFault, Standing};
+use cl_rests::RankSet;
 use cl_turns::Turn;
 use mp_alike::WholeHub;
 use rv_image_types::Image;
@@ -62,6 +63,9 @@ pub struct Exploration {
     /// Whether standard sends might wait for their receives in this search: then no ranks need buffers in the nodes whose
     /// moves were made.
     pub may_wait: bool,
+    /// Of each node whose moves were made, by its number: the ranks that rest there, if standard sends might wait for their
+    /// receives. Otherwise they weren't looked for.
+    pub resting: Vec<RankSet>,
 }
 
 /// Where a search begins, in a cluster of this image, and where it comes to an end.
@@ -80,6 +84,8 @@ struct Noted {
     long: Option<u8>,
     /// Of how many nodes a move led to a new node by more turns of a rank's own than it was let take at once.
     deep: usize,
+    /// Of each of them, the ranks that rest there, where standard sends may wait for their receives.
+    resting: Vec<RankSet>,
 }
 
 /// What a search that came to an end tells of its nodes.
@@ -262,6 +268,7 @@ fn note_visit(noted: &mut Noted, visit: Visit, node: usize) -> Result<(), AllocE
     if noted.long.is_none() {
         noted.long = visit.long;
     }
+    noted.resting.push(visit.resting)?;
     note_stuck(&mut noted.companies, visit.stuck, node)
 }
 
@@ -321,6 +328,7 @@ fn visit_each<L: Listener, E: Write>(
         companies: Vec::new(course.alloc),
         long,
         deep: 0,
+        resting: Vec::new(course.alloc),
     };
     let mut done = 0;
     'rest: while done < bounds.states
@@ -389,6 +397,7 @@ fn search_on<L: Listener, E: Write>(
         long: told.noted.long,
         leads: search.leads,
         may_wait: may_wait(course),
+        resting: told.noted.resting,
     }))
 }
 

@@ -1,8 +1,9 @@
 //! Where moves led.
 
-/// A move led from the node of one number to that of another.
+/// A move of a rank led from the node of one number to that of another.
 #[derive(Clone, Copy, Drop)]
 pub struct Lead {
+    pub rank: u8,
     pub from: usize,
     pub to: usize,
 }

@@ -5,7 +5,7 @@ ghost use Rattle.std.specs.Option.{option_map};
 ghost use Rattle.rv_image_types.specs.declared.images.ImageParts.{ImageParts};
 ghost use Rattle.cl_order_laws.specs.Closed.{Node};
 ghost use Rattle.cl_moves.specs.Standing.{StandsAt};
-ghost use Rattle.cl_rests.specs.Telling.{TellsNeed};
+ghost use Rattle.cl_rests.specs.Telling.{TellsNeed, TellsResting};
 ghost use Rattle.cl_explore.specs.How.{IsFitFor, IsHaltOf, how_in, waits_in};
 ghost use Rattle.cl_explore.specs.Kept.{IsLiveOf};
 ghost use Rattle.cl_explore.specs.Searching.{ClosesRank, Goes, GoesEach, GoesOn, IsVisited, KeepsOf};
@@ -20,7 +20,7 @@ use cl_contests::{Patterns, go_first, is_first_hart, is_fit};
 use cl_deadlock::deadlock;
 use cl_machine::Step;
 use cl_moves::{Standing, is_done, is_end, turns_of};
-use cl_rests::needing;
+use cl_rests::{RankSet, needing, resting};
 use std::alloc::AllocError;
 
 /// What is known of a node once its moves were made.
@@ -35,6 +35,8 @@ pub(crate) struct Visit {
     pub need: Option<Vec<u8>>,
     /// The first rank of which a move led to a new node by more turns of its own than it was let take at once.
     pub long: Option<u8>,
+    /// The ranks that rest there, where standard sends may wait for their receives: else they aren't looked for.
+    pub resting: RankSet,
 }
 
 /// The first of two, if there is one.
@@ -171,6 +173,17 @@ pub(crate) fn needing_in(
     needing(course.alloc, live)
 }
 
+/// The ranks that rest at a standing, where standard sends may wait for their receives. Elsewhere none are looked for.
+fn resting_in(course: &Manner<'_>, live: &Standing) -> RankSet
+    ensures { waits_in (how_in course.now) ≡ true → TellsResting live.now result }
+{
+    if may_wait(course) {
+        resting(live)
+    } else {
+        RankSet::none()
+    }
+}
+
 impl Search {
     /// One turn of a node at which a standing is, and behind it the turns that are taken at once: where it leads is kept,
     /// unless it is alike a node. Then the standing is at the node again. Answers whether it led to a new node from which
@@ -198,7 +211,11 @@ impl Search {
         let fewer = go_on(course, live, rank, &mut self.missing)?;
         let count = self.nodes.len();
         let to = self.arrive(course, live, node, usize::from(rank))?;
-        self.leads.push(Lead { from: node, to })?;
+        self.leads.push(Lead {
+            rank,
+            from: node,
+            to,
+        })?;
         if node >= self.nodes.len() {
             return Ok(false);
         }
@@ -291,6 +308,7 @@ impl Search {
             stuck,
             need,
             long,
+            resting: resting_in(course, live),
         })
     }
 
@@ -308,6 +326,7 @@ impl Search {
                 stuck: None,
                 need: None,
                 long: None,
+                resting: RankSet::none(),
             });
         }
         let kept = &self.nodes[node];

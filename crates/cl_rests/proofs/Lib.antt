@@ -1,3 +1,4 @@
 pub mod Found
 pub mod Among
 pub mod Held
+pub mod Members

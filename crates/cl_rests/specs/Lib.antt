@@ -1,4 +1,5 @@
 pub mod Needing
+pub mod Sets
 pub mod Telling
 pub mod Sought
 pub mod Found

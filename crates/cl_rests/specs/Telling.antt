@@ -1,5 +1,5 @@
 -- What is told of a standing: which ranks rest there, and which need buffers.
-use Rattle.std.specs.Prelude.{ℕ, ◌≡◌, Bool, List, length, Option, Some, None}
+use Rattle.std.specs.Prelude.{ℕ, ◌≡◌, ◌≤◌, Bool, List, length, Option, Some, None}
 use Rattle.std.specs.List.{slice_get}
 use Rattle.rv_image_types.specs.Image.{IsImage}
 use Rattle.rv_image_types.specs.declared.images.ImageParts.{ImageParts}
@@ -11,11 +11,22 @@ use Rattle.cl_order_laws.specs.Closed.{Node}
 use Rattle.cl_moves.specs.Standing.{StandsAt}
 use Rattle.cl_moves.specs.declared.standing.Standing.{Standing}
 use Rattle.cl_rests.specs.Needing.{IsNeed, IsNoNeed}
+use Rattle.cl_rests.specs.Sets.{in_set}
 
 -- whichever node the standing is, the rank's first hart rests there or doesn't
 abbrev pub IsRestAt : Standing → ℕ → Bool → Type 0
 IsRestAt standing rank found =
     (image : ImageParts) (here : Node) → StandsAt image standing here → found ≡ rests here.cluster rank 0
+
+-- the set has just the ranks whose first hart rests there
+abbrev pub AreResting : ℕ → Cluster → Type 0
+AreResting set c = (r : ℕ) → in_set set r ≡ rests c r 0
+
+-- whichever node the standing is, of as many ranks as an image may have
+abbrev pub TellsResting : Standing → ℕ → Type 0
+TellsResting standing set =
+    (image : ImageParts) (here : Node) → StandsAt image standing here → length here.cluster.ranks ≤ 8
+    → AreResting set here.cluster
 
 -- each rank has one hart
 abbrev pub HaveOneHart : Cluster → Type 0

@@ -7,8 +7,10 @@
 mod buffering;
 mod handles;
 mod resting;
+mod sets;
 mod sought;
 
 pub use buffering::needing;
 pub use handles::{handles_ahead, post_of_send};
-pub use resting::{rests, says_buffered};
+pub use resting::{resting, rests, says_buffered};
+pub use sets::RankSet;

@@ -11,9 +11,10 @@ ghost use Rattle.cl_rest_laws.specs.Rests.{rests_in as rests_in_of, says_buffere
 ghost use Rattle.cl_rests.specs.Held.{TellsRestsBeside};
 ghost use Rattle.cl_rests.specs.Found.{TellsRestsTo, sent_behind};
 ghost use Rattle.cl_rests.specs.Sought.{is_sought, is_sought_handle};
-ghost use Rattle.cl_rests.specs.Telling.{IsRestAt};
+ghost use Rattle.cl_rests.specs.Telling.{IsRestAt, TellsResting};
 
 use crate::handles::{handles_waited_for, is_wait, post_of_send};
+use crate::sets::RankSet;
 use crate::sought::Sought;
 use cl_calls::{Call, Sending};
 use cl_moves::Standing;
@@ -160,4 +161,17 @@ pub fn rests(standing: &Standing, rank: u8) -> bool
     ensures { IsRestAt standing.now rank result }
 {
     rests_to(standing, rank, None)
+}
+
+/// The ranks that rest so.
+pub fn resting(standing: &Standing) -> RankSet
+    ensures { TellsResting standing.now result }
+{
+    let mut ranks = RankSet::none();
+    for rank in 0..8 {
+        if rests(standing, rank) {
+            ranks = ranks.with(rank);
+        }
+    }
+    ranks
 }

@@ -39,6 +39,7 @@ use Rattle.cl_explore.specs.How.{AreAlikeFor, HasRoom, How, IsFitFor, MayBegin, 
 use Rattle.cl_explore.specs.Covering.{AreJoined, HasLead, IsClosedAt, IsClosedFrom, Reaches}
 use Rattle.cl_explore.specs.Ends.{ExploredFrom, Findings, IsVisitedNode}
 use Rattle.cl_explore.specs.declared.leads.Lead.{Lead}
+use Rattle.cl_explore.proofs.Covers.{lead_of}
 use Rattle.cl_explore.proofs.Keeping.{node_found}
 use Rattle.cl_explore.proofs.Lists.{at_inside}
 use Rattle.rvmc_explore.specs.Endless.{AllMayEnd, AreComplete, NeverNeeds, NeverStuck, SaysEndsAnyway, SaysNoneNeed, SaysNoneStuck, SaysUnending, SaysUnendingOf, SomeNeverEnds}
@@ -142,7 +143,7 @@ module _ (image : ImageParts) (order : List ℕ) (start : Node) (nodes : List No
           record {
             j = f.number;
             to = f.next;
-            edge = lead_edge leads i f.number f.led;
+            edge = lead_edge leads i f.number (lead_of leads r i f.number f.led);
             there = f.there;
             reaches = as_reaches sure order (f.next ∷ []) (node_of new (one_more node.had r)) f.reaches;
           })
@@ -164,7 +165,7 @@ module _ (image : ImageParts) (order : List ℕ) (start : Node) (nodes : List No
           record {
             j = f.number;
             to = f.next;
-            edge = lead_edge leads i f.number f.led;
+            edge = lead_edge leads i f.number (lead_of leads r i f.number f.led);
             there = f.there;
             settles = f.reaches;
           })
@@ -280,8 +281,8 @@ module _ (image : ImageParts) (order : List ℕ) (start : Node) (found : Finding
         same_Some v.0 from (sym v.2 ∙ (ap (slice_get nodes) led.3 ∙ here)) in
         let second : v.1 ≡ to =
         same_Some v.1 to (sym v.3 ∙ (ap (slice_get nodes) led.4 ∙ there)) in
-        let joined = subst (λ n. AreJoined explored.how order n to) first
-        (subst (λ n. AreJoined explored.how order v.0 n) second v.4) in
+        let joined = subst (λ n. AreJoined explored.how order (led.1).rank n to) first
+        (subst (λ n. AreJoined explored.how order (led.1).rank v.0 n) second v.4) in
         (joined.there, after_way from joined.there joined.steps joined.way, joined.alike);
     reached = reached;
   }

@@ -10,7 +10,7 @@ use Rattle.cl_explore.proofs.exploring.follow_if_cut.Goals as goal
 pub returns-in_default-2-clause-ends : goal.returns-in_default-2-clause-ends
 returns-in_default-2-clause-ends g c =
     same_explores (how_in c.args.course.now) c.args.course.now.order.now c.args.search.now c.dive.new.self c.in-Some.from
-    c.args.told.noted.ends.items c.args.told.noted.companies.items c.args.told.left _
+    c.args.told.noted.ends.items c.args.told.noted.companies.items c.args.told.left _ _
     (rw c.in_default-2.is at c.in_ok-end.ensures)
 
 pub returns-in_default-2-clause-most : goal.returns-in_default-2-clause-most
@@ -28,10 +28,11 @@ returns-clause-ends g c =
     let long = longer_by (how_in c.args.course.now) c.args.course.now.order.now old new c.in-Some.from c.in-Some-2.end found in
     let how = how_in c.args.course.now in
     subst (λ ends. StillExplores how c.args.course.now.order.now (findings_of how old c.args.told)
-    (told new.nodes.items ends c.args.told.noted.companies.items new.leads.items c.saturating_sub.result (waits_in how)))
+    (told new.nodes.items ends c.args.told.noted.companies.items new.leads.items c.saturating_sub.result (waits_in how)
+    c.args.told.noted.resting.items))
     (sym c.in_ok-push.ensures.items)
     (still_explores how c.args.course.now.order.now old new c.in-Some.from c.in-Some-2.end
-    c.args.told.noted.ends.items c.args.told.noted.companies.items c.args.told.left c.saturating_sub.result _ found
+    c.args.told.noted.ends.items c.args.told.noted.companies.items c.args.told.left c.saturating_sub.result _ _ found
     (omega (arith, c.in-Some.ensures, c.len.ensures, old.nodes.ok.0))
     (λ none. omega (arith, none, c.if-told-eq0.false))
     (omega (arith, c.saturating_sub.ensures, c.len-2.ensures, new.nodes.ok.0, long, c.in-Some.ensures, c.len.ensures, old.nodes.ok.0)))

@@ -10,5 +10,6 @@ returns-clause-ends g c =
     let search = c.search_nodes-told.new.search in
     let noted = c.in-Ok-Some.told.noted in
     subst (λ may_wait. ExploresFrom (how_in course) course.order.now c.args.standing.now
-    (told search.nodes.items noted.ends.items noted.companies.items search.leads.items c.in-Ok-Some.told.left may_wait))
+    (told search.nodes.items noted.ends.items noted.companies.items search.leads.items c.in-Ok-Some.told.left may_wait
+    noted.resting.items))
     (sym c.may_wait.ensures) (rw c.in-Ok-Some.field-0-is at c.in-Ok-Some.ensures.ends)

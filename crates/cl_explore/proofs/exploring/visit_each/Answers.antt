@@ -1,4 +1,4 @@
-use Rattle.std.proofs.Common.{◌≡◌, ◌-◌, arith, inl, inr, subst, sym, length, ◌<◌, refl}
+use Rattle.std.proofs.Common.{◌≡◌, ◌∙◌, ◌-◌, ap, arith, inl, inr, subst, sym, length, ◌<◌, refl}
 use Rattle.std.specs.Prelude.{IfSome}
 use Rattle.std.proofs.lemmas.Bool.{cases_lt}
 use Rattle.cl_explore.specs.Covering.{HasRoomAt}
@@ -16,7 +16,8 @@ pub rest-init : goal.rest-init
 rest-init g c = (
   λ standing begun.
       none_from (how_in c.args.course.now) c.args.course.now.order.now standing c.args.search.now
-      c.new.result.items c.new-2.result.items begun c.new.ensures.items c.new-2.ensures.items,
+      c.new.result.items c.new-2.result.items c.new-3.result.items begun c.new.ensures.items c.new-2.ensures.items
+          c.new-3.ensures.items,
   omega (arith),
   nothing_told c.args.course.now.progress _,
   c.requires.of,
@@ -33,9 +34,10 @@ rest-preserved g c =
       λ standing begun.
           more_from (how_in c.args.course.now) c.args.course.now.order.now standing c.rest.search c.visit.new.self
           c.rest.noted.ends.items c.note_visit.new.noted.ends.items c.rest.noted.companies.items
-          c.note_visit.new.noted.companies.items c.rest.done (c.rest.invariant.0 standing begun) inside room
+          c.note_visit.new.noted.companies.items c.rest.noted.resting.items c.note_visit.new.noted.resting.items c.rest.done
+          (c.rest.invariant.0 standing begun) inside room
           c.in_ok-visit.visit c.in_ok-visit.ensures.visits c.in_ok-note_visit.ensures.ends c.in_ok-note_visit.ensures.stuck
-          c.in_ok-tell_need.ensures.none,
+          c.in_ok-note_visit.ensures.resting c.in_ok-tell_need.ensures.none,
       omega (arith, c.rest-test.true),
       told_behind c.args.course.now.progress _ _ _ c.rest.invariant.2 c.tell_progress.ensures,
       (visited (how_in c.args.course.now) c.args.course.now.image.now c.args.course.now.order.now c.rest.search c.visit.new.self
@@ -72,7 +74,7 @@ pub returns-clause-ends : goal.returns-clause-ends
 returns-clause-ends g c = λ standing room begun.
     tells_from (how_in c.args.course.now) c.args.course.now.order.now standing c.rest.search _
     c.rest.done room (c.rest.invariant.0 standing begun) refl refl refl
-    (omega (arith, c.saturating_sub-left.ensures, c.len-2.ensures, c.rest.search.nodes.ok.0))
+    (c.saturating_sub-left.ensures ∙ ap (λ n. n - c.rest.done) (c.len-2.ensures ∙ c.rest.search.nodes.ok.0))
 
 pub returns-clause-most : goal.returns-clause-most
 returns-clause-most g c =

@@ -12,7 +12,7 @@ use Rattle.cl_explore.proofs.exploring.visit_each.Given as goal
 abbrev pub invariant-rest : goal.invariant-rest
 invariant-rest g l =
     ((standing : Standing) → BeginsAt (how_in l.course) l.course.order.now standing l.fn.search
-    → SoFarFrom (how_in l.course) l.course.order.now standing l.search l.noted.ends.items l.noted.companies.items l.done)
+    → SoFarFrom (how_in l.course) l.course.order.now standing l.search l.noted.ends.items l.noted.companies.items l.noted.resting.items l.done)
     × (l.done ≤ l.bounds.states)
     × TellsProgress l.course.progress (g.E.Write.contents l.fn.err) (g.E.Write.contents l.err)
     × IsSearchOf (how_in l.course) l.course.image.now l.course.order.now l.search

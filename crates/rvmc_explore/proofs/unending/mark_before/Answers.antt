@@ -7,16 +7,16 @@ use Rattle.rvmc_explore.proofs.unending.mark_before.Goals as goal
 pub returns-clause-sound : goal.returns-clause-sound
 returns-clause-sound c = λ targets sound.
     let leads = c.args.leads.now in
-    let none : Lead = record { from = 0; to = 0 } in
+    let none : Lead = record { rank = 0; from = 0; to = 0 } in
     marked_before leads targets c.args.marks.now c.args.place (get_or leads c.args.place none)
     (slice_get-get_or leads c.args.place none c.requires) (c.is_marked.ensures.yes c.if-not-is_marked.false) sound
 
 pub returns-clause-stay : goal.returns-clause-stay
 returns-clause-stay c =
-    stays_marked c.args.marks.now (get_or c.args.leads.now c.args.place (record { from = 0; to = 0 })).from
+    stays_marked c.args.marks.now (get_or c.args.leads.now c.args.place (record { rank = 0; from = 0; to = 0 })).from
 
 pub returns-clause-more : goal.returns-clause-more
 returns-clause-more c = λ is.
-    let from = (get_or c.args.leads.now c.args.place (record { from = 0; to = 0 })).from in
+    let from = (get_or c.args.leads.now c.args.place (record { rank = 0; from = 0; to = 0 })).from in
     one_fewer c.args.marks.now from (omega (arith, c.if-lead-marks.false))
     (c.is_marked-else-not-is_marked.ensures.no c.if-is_marked.false)

@@ -17,4 +17,4 @@ returns-clause-visits c = λ kept here is_live.
     visited (how_in c.args.course.now) c.args.course.now.order.now c.args.self.now c.loop-rank.self
     c.args.node kept here c.args.live.now c.loop-rank.live is_live c.loop-rank.rank _
     (omega (arith, c.loop-rank-test.false, c.min-count.ensures, c.len.ensures)) c.in_ok-end.ensures c.in_ok-stuck.ensures
-    c.in_ok-need.ensures.need c.in_ok-check_fit.ensures.fit c.loop-rank.invariant
+    c.in_ok-need.ensures.need c.resting_in.ensures c.in_ok-check_fit.ensures.fit c.loop-rank.invariant
