@@ -20,7 +20,7 @@ use cl_contests::{Patterns, go_first, is_first_hart, is_fit};
 use cl_deadlock::deadlock;
 use cl_machine::Step;
 use cl_moves::{Standing, is_done, is_end, turns_of};
-use cl_rests::{RankSet, needing, resting};
+use cl_rests::{RankSet, needing, resting_ranks};
 use std::alloc::AllocError;
 
 /// What is known of a node once its moves were made.
@@ -178,7 +178,7 @@ fn resting_in(course: &Manner<'_>, live: &Standing) -> RankSet
     ensures { waits_in (how_in course.now) ≡ true → TellsResting live.now result }
 {
     if may_wait(course) {
-        resting(live)
+        resting_ranks(live)
     } else {
         RankSet::none()
     }

@@ -1,9 +1,9 @@
 -- Whether a rank rests, by the send behind which it stands; and of a rank of a standing.
-use Rattle.std.specs.Prelude.{ℕ, ◌≡◌, ◌<◌, ◌&&◌, ◌||◌, cond, Bool, true, false, List, [], ◌∷◌, length, get_or}
+use Rattle.std.specs.Prelude.{ℕ, ◌≡◌, ◌<◌, ◌≤◌, ◌&&◌, ◌||◌, cond, Bool, true, false, List, [], ◌∷◌, length, get_or}
 use Rattle.std.specs.Prelude.{option_map, Option, Some, None}
 use Rattle.std.specs.List.{list_any, slice_get}
 use Rattle.std.proofs.Common.{refl, sym, ap, subst, ◌∙◌, arith}
-use Rattle.std.proofs.lemmas.Option.{slice_get-map, slice_get_read}
+use Rattle.std.proofs.lemmas.Option.{slice_get-map, slice_get_past, slice_get_read}
 use Rattle.rv_image_types.specs.declared.images.ImageParts.{ImageParts}
 use Rattle.rv_hart.specs.State.{State}
 use Rattle.mp_match.specs.declared.posts.Line.{Line}
@@ -21,9 +21,10 @@ use Rattle.cl_state.specs.Asked.{asked, doing}
 use Rattle.cl_state.specs.Rank.{Rank}
 use Rattle.cl_state.specs.Room.{rank_of}
 use Rattle.cl_rest_laws.specs.Rests.{handles_ahead, is_message_of, is_sent_with}
-use Rattle.cl_rest_laws.specs.Rests.{rests_behind, rests_if, rests_in, spelled, stands_behind_call}
+use Rattle.cl_rest_laws.specs.Rests.{rests, rests_behind, rests_if, rests_in, spelled, stands_behind_call}
 use Rattle.cl_rest_laws.specs.Unpaired.{is_send}
 use Rattle.cl_rest_laws.specs.Unreceived.{lacks_receive, is_unreceived}
+use Rattle.cl_machine.specs.Cluster.{Cluster}
 use Rattle.cl_order_laws.specs.Alike.{hub_of}
 use Rattle.cl_order_laws.specs.Closed.{Node}
 use Rattle.cl_moves.specs.Standing.{StandsAt}
@@ -86,6 +87,12 @@ module _ (rank : Rank) (none : length rank.harts ≡ 0) where
   pub none_asked : asked rank 0 ≡ Ask.Idle
   unfolding asked doing
   none_asked = subst (λ hs. asked (record rank { harts = hs }) 0 ≡ Ask.Idle) (sym (no_items rank.harts none)) refl
+
+-- ---- a rank that isn't there
+
+pub past_rests : (c : Cluster) → length c.ranks ≤ 8 → (r : ℕ) → 8 ≤ r → rests c r 0 ≡ false
+past_rests c few r past =
+    ap (λ o. rests_if (λ m. true) (hub_of c.journal) r o 0) (slice_get_past c.ranks r (omega (arith, few, past)))
 
 -- ---- of a rank of a standing
 

@@ -1,8 +1,9 @@
 -- Sets of ranks, bit by bit.
-use Rattle.std.specs.Prelude.{ℕ, zero, suc, ◌+◌, ◌<◌, ◌≤◌, ◌≡◌, ◌==◌, ◌&&◌, ◌||◌, ◌^◌, ◌*◌, ◌%◌, min, max, nat_lt, not, Bool, true, false}
+use Rattle.std.specs.Prelude.{ℕ, zero, suc, ◌+◌, ◌<◌, ◌≤◌, ◌≡◌, ◌==◌, ◌&&◌, ◌||◌, ◌^◌, ◌*◌, ◌/◌, ◌%◌, min, max, nat_eq, nat_lt, not, Bool, true, false}
 use Rattle.std.proofs.Common.{refl, sym, ap, ◌∙◌, subst, arith, inl, inr}
-use Rattle.std.proofs.lemmas.Bool.{cases_eq, cases_lt, eq-eqb, le-ltb, lt-ltb, ne_eqb}
-use Rattle.std.proofs.lemmas.Nat.Bits.{bit_at-lt, bit_at-zero, bit_at_and, bit_at_clear_other, bit_at_clear_same, bit_at_or, bit_at_set_other, bit_at_set_same, same_from_bits_below}
+use Rattle.std.proofs.lemmas.Bool.{cases_eq, cases_lt, cases_order, eq-eqb, eqb-true, le-ltb, lt-ltb, ne_eqb}
+use Rattle.std.proofs.lemmas.Nat.{and_le_l}
+use Rattle.std.proofs.lemmas.Nat.Bits.{bit_at-lt, bit_at-zero, bit_at_and, bit_at_clear_other, bit_at_clear_same, bit_at_or, bit_at_set_other, bit_at_set_same, same_from_bits_below, shr_and_one}
 use Rattle.std.specs.Int.{bit_at, bit_not, w8}
 use Rattle.std.specs.Int.RustNames.{bit_or}
 use Rattle.std.specs.Int.Bits.{bit_and}
@@ -73,13 +74,18 @@ same_set a b low less same = same_from_bits_below 8 a b (omega (arith, low)) (om
     same_bit (bit_at a i) (bit_at b i) (bit_at-lt a i) (bit_at-lt b i)
     (subst (λ t. (t && (bit_at a i == 1)) ≡ (t && (bit_at b i == 1))) t (same i)))
 
+pub has_in : (a r : ℕ) → r < 8 → nat_eq (bit_and (a / 2 ^ r) 1) 1 ≡ in_set a r
+unfolding in_set
+has_in a r low =
+    ap (λ n. nat_eq n 1) (shr_and_one a r) ∙ sym (ap (λ t. t && (bit_at a r == 1)) (lt-ltb r 8 low))
+
 -- ---- one rank more, or less
 
 or_true : (b : Bool) → (b || true) ≡ true
 or_true true = refl
 or_true false = refl
 
-or_false : (b : Bool) → (b || false) ≡ b
+pub or_false : (b : Bool) → (b || false) ≡ b
 or_false true = refl
 or_false false = refl
 
@@ -141,7 +147,7 @@ without_past a k past r = elim (cases_eq r k) [
 -- ---- a set within another
 
 -- where both have the same as the one, the one is within the other
-pub within_of : (a b : ℕ) → bit_and a b ≡ a → (r : ℕ) → in_set a r ≡ true → in_set b r ≡ true
+within_of : (a b : ℕ) → bit_and a b ≡ a → (r : ℕ) → in_set a r ≡ true → in_set b r ≡ true
 within_of a b is r has =
     right (in_set a r) (in_set b r) (sym (meet_in a b r) ∙ (ap (λ s. in_set s r) is ∙ has))
   where
@@ -149,17 +155,83 @@ within_of a b is r has =
     right true t e = e
     right false t e = absurd (cc)
 
-pub of_within : (a b : ℕ) → a < 256 → bit_and a b < 256 → ((r : ℕ) → in_set a r ≡ true → in_set b r ≡ true)
-    → bit_and a b ≡ a
-of_within a b low less within = same_set (bit_and a b) a less low (λ r.
+of_within : (a b : ℕ) → a < 256 → ((r : ℕ) → in_set a r ≡ true → in_set b r ≡ true) → bit_and a b ≡ a
+of_within a b low within = same_set (bit_and a b) a (let less = and_le_l a b in omega (arith, less, low)) low (λ r.
     meet_in a b r ∙ left (in_set a r) (in_set b r) (within r))
   where
     left : (s t : Bool) → (s ≡ true → t ≡ true) → (s && t) ≡ s
     left true t is = is refl
     left false t is = refl
 
-pub empty_of : (a : ℕ) → a ≡ 0 → (r : ℕ) → in_set a r ≡ false
+-- by the bits of the sets that these are
+abbrev pub Within : ℕ → ℕ → Type 0
+Within s t = (r : ℕ) → in_set s r ≡ true → in_set t r ≡ true
+
+pub within_both : (a b s t : ℕ) → a ≡ s → b ≡ t → a < 256
+    → (nat_eq (bit_and a b) a ≡ true → Within s t) × (Within s t → nat_eq (bit_and a b) a ≡ true)
+within_both a b s t one other low = (
+  λ is. subst (λ x. Within x t) one (subst (Within a) other (within_of a b (eqb-true (bit_and a b) a is))),
+  λ within.
+      eq-eqb (bit_and a b) a
+      (of_within a b low (subst (λ x. Within x b) (sym one) (subst (Within s) (sym other) within))),
+)
+
+-- ---- the empty set
+
+abbrev pub Empty : ℕ → Type 0
+Empty s = (r : ℕ) → in_set s r ≡ false
+
+empty_of : (a : ℕ) → a ≡ 0 → Empty a
 empty_of a is r = ap (λ s. in_set s r) is ∙ none_in r
 
-pub of_empty : (a : ℕ) → a < 256 → ((r : ℕ) → in_set a r ≡ false) → a ≡ 0
+of_empty : (a : ℕ) → a < 256 → Empty a → a ≡ 0
 of_empty a low none = same_set a 0 low (omega arith) (λ r. none r ∙ sym (none_in r))
+
+pub empty_both : (a s : ℕ) → a ≡ s → a < 256 → (nat_eq a 0 ≡ true → Empty s) × (Empty s → nat_eq a 0 ≡ true)
+empty_both a s one low = (
+  λ is. subst Empty one (empty_of a (eqb-true a 0 is)),
+  λ none. eq-eqb a 0 (of_empty a low (subst Empty (sym one) none)),
+)
+
+-- ---- rank after rank
+
+-- one more rank was asked
+module _ (found : ℕ → Bool) (set new rank : ℕ) (b : Bool) (low : rank < 8) (is : b ≡ found rank)
+    (before : (r : ℕ) → in_set set r ≡ nat_lt r rank && found r)
+    (goes : (r : ℕ) → in_set new r ≡ in_set set r || (b && ((r == rank) && nat_lt rank 8))) where
+  at_rank : in_set new rank ≡ nat_lt rank (rank + 1) && found rank
+  at_rank =
+      goes rank
+      ∙ (ap (λ t. t || (b && ((rank == rank) && nat_lt rank 8)))
+      (before rank ∙ ap (λ t. t && found rank) (le-ltb rank rank (omega arith)))
+      ∙ (ap (λ t. b && (t && nat_lt rank 8)) (eq-eqb rank rank refl)
+      ∙ (ap (λ t. b && t) (lt-ltb rank 8 low)
+      ∙ (and_true b ∙ (is ∙ ap (λ t. t && found rank) (sym (lt-ltb rank (rank + 1) (omega arith))))))))
+
+  beside : (r : ℕ) → (r ≡ rank → ⊥) → in_set new r ≡ nat_lt r rank && found r
+  beside r other =
+      goes r
+      ∙ (ap (λ t. in_set set r || (b && (t && nat_lt rank 8))) (ne_eqb r rank other)
+      ∙ (ap (λ t. in_set set r || t) (and_false b) ∙ (or_false (in_set set r) ∙ before r)))
+
+  pub one_rank : (r : ℕ) → in_set new r ≡ nat_lt r (rank + 1) && found r
+  one_rank r = elim (cases_order r rank) [
+    | inl same ↦ subst (λ i. in_set new i ≡ nat_lt i (rank + 1) && found i) (sym same) at_rank
+    | inr apart ↦ elim apart [
+      | inl less ↦
+          beside r (λ e. omega (arith, e, less))
+          ∙ ap (λ t. t && found r) (lt-ltb r rank less ∙ sym (lt-ltb r (rank + 1) (omega (arith, less))))
+      | inr more ↦
+          beside r (λ e. omega (arith, e, more))
+          ∙ ap (λ t. t && found r)
+          (le-ltb r rank (omega (arith, more)) ∙ sym (le-ltb r (rank + 1) (omega (arith, more))))
+    ]
+  ]
+
+-- all were, and there are none from 8 on
+pub all_ranks : (found : ℕ → Bool) (set count : ℕ) → 8 ≤ count → ((r : ℕ) → in_set set r ≡ nat_lt r count && found r)
+    → ((r : ℕ) → 8 ≤ r → found r ≡ false) → (r : ℕ) → in_set set r ≡ found r
+all_ranks found set count enough before none r = elim (cases_lt r 8) [
+  | inl less ↦ before r ∙ ap (λ t. t && found r) (lt-ltb r count (omega (arith, less, enough)))
+  | inr past ↦ past_in set r past ∙ sym (none r past)
+]

@@ -12,5 +12,5 @@ mod sought;
 
 pub use buffering::needing;
 pub use handles::{handles_ahead, post_of_send};
-pub use resting::{resting, rests, says_buffered};
+pub use resting::{resting_ranks, rests, says_buffered};
 pub use sets::RankSet;

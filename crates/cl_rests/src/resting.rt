@@ -1,6 +1,6 @@
 //! Ranks that rest.
 
-ghost use Rattle.std.specs.Prelude.{◌≡◌, ◌<◌, option_map, vec_len};
+ghost use Rattle.std.specs.Prelude.{◌≡◌, ◌<◌, ◌==◌, ◌&&◌, ◌||◌, ℕ, nat_lt, option_map, vec_len};
 ghost use Rattle.std.specs.List.{list_any};
 ghost use Rattle.cl_state.specs.Room.{rank_of};
 ghost use Rattle.cl_state.specs.TurnRoom.{IsNext};
@@ -10,6 +10,7 @@ ghost use Rattle.cl_rest_laws.specs.Rests.{rests_before as rests_before_of, rest
 ghost use Rattle.cl_rest_laws.specs.Rests.{rests_in as rests_in_of, says_buffered as says_buffered_of};
 ghost use Rattle.cl_rests.specs.Held.{TellsRestsBeside};
 ghost use Rattle.cl_rests.specs.Found.{TellsRestsTo, sent_behind};
+ghost use Rattle.cl_rests.specs.Sets.{in_set};
 ghost use Rattle.cl_rests.specs.Sought.{is_sought, is_sought_handle};
 ghost use Rattle.cl_rests.specs.Telling.{IsRestAt, TellsResting};
 
@@ -163,15 +164,20 @@ pub fn rests(standing: &Standing, rank: u8) -> bool
     rests_to(standing, rank, None)
 }
 
+/// The set, and this rank too if it is one.
+fn with_if(ranks: RankSet, rank: u8, is_one: bool) -> RankSet
+    ensures { (r : ℕ) → in_set result r ≡ in_set ranks r || (is_one && ((r == rank) && nat_lt rank 8)) }
+{
+    if is_one { ranks.with(rank) } else { ranks }
+}
+
 /// The ranks that rest so.
-pub fn resting(standing: &Standing) -> RankSet
+pub fn resting_ranks(standing: &Standing) -> RankSet
     ensures { TellsResting standing.now result }
 {
     let mut ranks = RankSet::none();
     for rank in 0..8 {
-        if rests(standing, rank) {
-            ranks = ranks.with(rank);
-        }
+        ranks = with_if(ranks, rank, rests(standing, rank));
     }
     ranks
 }
