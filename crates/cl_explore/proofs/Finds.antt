@@ -33,7 +33,8 @@ use Rattle.cl_contests.specs.Below.{WaitsWithin}
 use Rattle.cl_contests.specs.declared.patterns.AskedBy.{AskedBy}
 use Rattle.cl_contest_laws.specs.Below.{IsReachable}
 use Rattle.cl_rests.specs.Needing.{IsNoNeed}
-use Rattle.cl_rests.specs.Telling.{AreResting, HaveOneHart, IsNeedVerdict}
+use Rattle.cl_rests.specs.Sets.{AreResting}
+use Rattle.cl_rests.specs.Telling.{HaveOneHart, IsNeedVerdict}
 use Rattle.cl_explore.specs.How.{HasRoom, How, IsFitFor, MayBegin, at_once, by_contest, plainly, waits_in}
 use Rattle.cl_explore.specs.Covering.{AreLeads, AreNodes, HasRoomAt, IsClosedAt, IsClosedFrom, Reaches}
 use Rattle.cl_explore.specs.Ends.{AreAlikeEnds, AreAllEnds, AreRestingAt, AreTurnsTo, BeginsAt, BeginsWell, Explored, ExploredBehind, ExploredFrom, ExploresFrom, Findings, IsBounded, Notes}

@@ -10,7 +10,7 @@ use Rattle.cl_order_laws.specs.Closed.{FollowPlans, IsEnd, Node}
 use Rattle.cl_contests.specs.Below.{Wild}
 use Rattle.cl_contests.specs.Below.{AreAlike}
 use Rattle.cl_rests.specs.Needing.{IsNoNeed}
-use Rattle.cl_rests.specs.Telling.{AreResting}
+use Rattle.cl_rests.specs.Sets.{AreResting}
 use Rattle.cl_moves.specs.Standing.{IsWay, StandsAt, by_order, first_node}
 use Rattle.cl_moves.specs.declared.standing.Standing.{Standing}
 use Rattle.cl_explore.specs.Companies.{IsCompanyAt, IsJudged}

@@ -9,7 +9,8 @@ use Rattle.cl_order_laws.specs.Closed.{IsEnd, Node}
 use Rattle.cl_order_laws.specs.Laws.{IsReached}
 use Rattle.cl_moves.specs.Standing.{IsWay, StandsAt, by_order}
 use Rattle.cl_moves.specs.declared.standing.Standing.{Standing}
-use Rattle.cl_rests.specs.Telling.{AreResting, HaveOneHart, IsNeedVerdict}
+use Rattle.cl_rests.specs.Sets.{AreResting}
+use Rattle.cl_rests.specs.Telling.{HaveOneHart, IsNeedVerdict}
 use Rattle.cl_explore.specs.How.{AreAlikeFor, How, IsFitFor, waits_in}
 use Rattle.cl_explore.specs.Kept.{AreSamePlaces, IsAlikeKept, IsBefore, IsLiveAt}
 use Rattle.cl_explore.specs.Covering.{AreLeads, AreNodes, Grows, IsAlikeAt, IsClosedFrom, IsReachedTurn, LeadsGrow, Reaches}

@@ -11,16 +11,12 @@ use Rattle.cl_order_laws.specs.Closed.{Node}
 use Rattle.cl_moves.specs.Standing.{StandsAt}
 use Rattle.cl_moves.specs.declared.standing.Standing.{Standing}
 use Rattle.cl_rests.specs.Needing.{IsNeed, IsNoNeed}
-use Rattle.cl_rests.specs.Sets.{in_set}
+use Rattle.cl_rests.specs.Sets.{AreResting}
 
 -- whichever node the standing is, the rank's first hart rests there or doesn't
 abbrev pub IsRestAt : Standing → ℕ → Bool → Type 0
 IsRestAt standing rank found =
     (image : ImageParts) (here : Node) → StandsAt image standing here → found ≡ rests here.cluster rank 0
-
--- the set has just the ranks whose first hart rests there
-abbrev pub AreResting : ℕ → Cluster → Type 0
-AreResting set c = (r : ℕ) → in_set set r ≡ rests c r 0
 
 -- whichever node the standing is, of as many ranks as an image may have
 abbrev pub TellsResting : Standing → ℕ → Type 0

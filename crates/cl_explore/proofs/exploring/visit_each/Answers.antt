@@ -17,7 +17,7 @@ rest-init g c = (
   λ standing begun.
       none_from (how_in c.args.course.now) c.args.course.now.order.now standing c.args.search.now
       c.new.result.items c.new-2.result.items c.new-3.result.items begun c.new.ensures.items c.new-2.ensures.items
-          c.new-3.ensures.items,
+      c.new-3.ensures.items,
   omega (arith),
   nothing_told c.args.course.now.progress _,
   c.requires.of,
