@@ -204,9 +204,9 @@ module _ (search : Search) where
 
   -- ---- from what is alike a state at which all rest
 
-  module _ (e : State search) (within : AllWithin search e.cluster) (rest : AllRest search e.cluster) where
+  module _ (e : State search) where
     -- what isn't there isn't there in what is alike
-    vain_too : (d : State search) → (alike : Alike search e d) → (r : ℕ) (a : Ask) → AskWithin search.wild r a
+    pub vain_too : (d : State search) → (alike : Alike search e d) → (r : ℕ) (a : Ask) → AskWithin search.wild r a
         → AskOfLive e.cluster a → IsInVain e.cluster r a
         → IsInVain d.cluster r (ask_by alike.0 a)
     vain_too d alike r (Ask.Hub q) may live none =
@@ -224,125 +224,126 @@ module _ (search : Search) where
     vain_too d alike r Ask.Idle may live none = none
     vain_too d alike r (Ask.Ready link part bytes) may live none = none
 
-    dozes : (d : State search) → Alike search e d → (r : ℕ) (y : Rank) → slice_get d.cluster.ranks r ≡ Some y
-        → IsStopped (mode_of y (hart r)) ⊎ Dozes d.cluster r y
-    dozes d alike r y there =
-        let f = pair_from search r e.cluster d.cluster alike y there in
-        let x = f.0 in
-        elim (rest r x f.1) [
-          | inl stopped ↦ inl (stops_too alike.0 x y f.2 (hart r) stopped)
-          | inr waits ↦
-              let sx = (e.good).stands r x f.1 in
-              let sy = (d.good).stands r y there in
-              inr (record {
-                on = waits_too alike.0 (hart r) x y sx sy f.2 ∙ (waits.0).on;
-                none = subst (IsInVain d.cluster r) (sym (asks_too alike.0 (hart r) x y sx sy f.2))
-                    (vain_too d alike r (asked x (hart r)) (within r x f.1).1 (asks_live search e r (hart r) x f.1) waits.1);
-              })
-        ]
-
-    -- turns after which the first so many ranks are stopped or wait
-    record Napped (k : ℕ) (d : State search) : Type 0 where
-      ranks : List ℕ
-      last : State search
-      walk : GoesOn (cluster_machine search) ranks d last
-      alike : Alike search e last
-      quiet : (r : ℕ) (y : Rank) → r < k → slice_get last.cluster.ranks r ≡ Some y → IsQuiet (mode_of y (hart r))
-
-    -- one rank more
-    stays : (k : ℕ) (d : State search) (p : Napped k d)
-        → ((y : Rank) → slice_get p.last.cluster.ranks k ≡ Some y → IsQuiet (mode_of y (hart k)))
-        → Napped (suc k) d
-    stays k d p its = record {
-      ranks = p.ranks;
-      last = p.last;
-      walk = p.walk;
-      alike = p.alike;
-      quiet = λ r y low there. elim (cases_eq r k) [
-        | inl same ↦
-            subst (λ i. IsQuiet (mode_of y (hart i))) (sym same)
-            (its y (subst (λ i. slice_get p.last.cluster.ranks i ≡ Some y) same there))
-        | inr other ↦ p.quiet r y (omega (arith, low, other)) there
-      ];
-    }
-
-    goes : (k : ℕ) (d : State search) (p : Napped k d) (y : Rank) → slice_get p.last.cluster.ranks k ≡ Some y
-        → Dozes p.last.cluster k y
-        → Napped (suc k) d
-    goes k d p y there doze =
-        let a = p.last in
-        let h = hart k in
-        let its = (cluster_machine_law search).within k e a p.alike (within k) in
-        let made = made_within search.patterns k h y (its y there).0 in
-        let inside = has_hart y h (vain_live a.cluster k (asked y h) doze.none) in
-        let t = turn_in_vain k h a.cluster y there inside doze.none in
-        let new : State search =
-        record { cluster = t.0; good = good_after search k a.cluster t.0 y there a.good its t.1 } in
-        let n = nap a.cluster t.0 k y there inside doze (gone k h a.cluster t.0 y there made t.1) in
-        let set = n.ranks in
-        let z = n.now in
-        record {
-          ranks = p.ranks ++ k ∷ [];
-          last = new;
-          walk = (snoc (cluster_machine search) (cluster_machine_law search) p.ranks k d a new p.walk t.1).walk;
-          alike = alike_on search e a new p.alike (same_alike search.wild a.cluster t.0 (a.good).boxes n.same);
-          quiet = λ r u low here.
-              let at : slice_get (slice_set a.cluster.ranks k z) r ≡ Some u =
-              sym (ap (λ xs. slice_get xs r) set) ∙ here in
-              elim (cases_eq k r) [
-                | inl same ↦
-                    let w = was_there a.cluster.ranks k z u
-                    (subst (λ i. slice_get (slice_set a.cluster.ranks k z) i ≡ Some u) (sym same) at) in
-                    subst (λ i. IsQuiet (mode_of u (hart i))) same
-                    (subst (λ v. IsQuiet (mode_of v h)) w.0 (inr n.waits))
-                | inr other ↦
-                    p.quiet r u (omega (arith, low, other)) (sym (get-set_other a.cluster.ranks k r z other) ∙ at)
-              ];
-        }
-
-    one_more : (k : ℕ) (d : State search) (p : Napped k d) → (o : Option Rank) → slice_get p.last.cluster.ranks k ≡ o
-        → Napped (suc k) d
-    one_more k d p None is = stays k d p (λ y there. (let none = sym is ∙ there in absurd (cc)))
-    one_more k d p (Some y) is = elim (quiet_or_runs (mode_of y (hart k))) [
-      | inl quiet ↦ its quiet
-      | inr runs ↦ elim (dozes p.last p.alike k y is) [
-        | inl stopped ↦ its (inl stopped)
-        | inr doze ↦ goes k d p y is doze
-      ]
-    ]
-      where
-        its : IsQuiet (mode_of y (hart k)) → Napped (suc k) d
-        its quiet = stays k d p (λ z there. subst (λ v. IsQuiet (mode_of v (hart k))) (same_Some y z (sym is ∙ there)) quiet)
-
-    naps : (k : ℕ) (d : State search) → Alike search e d → Napped k d
-    naps zero d alike = record {
-      ranks = [];
-      last = d;
-      walk = refl;
-      alike = alike;
-      quiet = λ r y low there. absurd (omega (arith, low));
-    }
-    naps (suc k) d alike = (let p = naps k d alike in one_more k d p (slice_get p.last.cluster.ranks k) refl)
-
-    all_napped : (d : State search) (n : Napped (length e.cluster.ranks) d) → AllRest search n.last.cluster
-    all_napped d n r y there =
-        let low = slice_get_within n.last.cluster.ranks r y there in
-        let many = sym (length-map n.last.cluster.ranks awake) ∙ (((n.alike).1).ranks).many ∙ length-map e.cluster.ranks awake in
-        elim (dozes n.last n.alike r y there) [
-          | inl stopped ↦ inl stopped
-          | inr doze ↦ elim (n.quiet r y (omega (arith, low, many)) there) [
-            | inl stopped ↦ inl stopped
-            | inr waits ↦ inr (
-              record { waits = waits; on = doze.on },
-              doze.none,
-            )
+    module _ (within : AllWithin search e.cluster) (rest : AllRest search e.cluster) where
+      dozes : (d : State search) → Alike search e d → (r : ℕ) (y : Rank) → slice_get d.cluster.ranks r ≡ Some y
+          → IsStopped (mode_of y (hart r)) ⊎ Dozes d.cluster r y
+      dozes d alike r y there =
+          let f = pair_from search r e.cluster d.cluster alike y there in
+          let x = f.0 in
+          elim (rest r x f.1) [
+            | inl stopped ↦ inl (stops_too alike.0 x y f.2 (hart r) stopped)
+            | inr waits ↦
+                let sx = (e.good).stands r x f.1 in
+                let sy = (d.good).stands r y there in
+                inr (record {
+                  on = waits_too alike.0 (hart r) x y sx sy f.2 ∙ (waits.0).on;
+                  none = subst (IsInVain d.cluster r) (sym (asks_too alike.0 (hart r) x y sx sy f.2))
+                      (vain_too d alike r (asked x (hart r)) (within r x f.1).1 (asks_live search e r (hart r) x f.1) waits.1);
+                })
           ]
-        ]
 
-    -- turns lead to where all rest
-    pub asleep : (d : State search) → Alike search e d
-        → (ranks : List ℕ) × (last : State search) × GoesOn (cluster_machine search) ranks d last
-        × AllRest search last.cluster
-    asleep d alike =
-        let n = naps (length e.cluster.ranks) d alike in
-        (n.ranks, n.last, n.walk, all_napped d n)
+      -- turns after which the first so many ranks are stopped or wait
+      record Napped (k : ℕ) (d : State search) : Type 0 where
+        ranks : List ℕ
+        last : State search
+        walk : GoesOn (cluster_machine search) ranks d last
+        alike : Alike search e last
+        quiet : (r : ℕ) (y : Rank) → r < k → slice_get last.cluster.ranks r ≡ Some y → IsQuiet (mode_of y (hart r))
+
+      -- one rank more
+      stays : (k : ℕ) (d : State search) (p : Napped k d)
+          → ((y : Rank) → slice_get p.last.cluster.ranks k ≡ Some y → IsQuiet (mode_of y (hart k)))
+          → Napped (suc k) d
+      stays k d p its = record {
+        ranks = p.ranks;
+        last = p.last;
+        walk = p.walk;
+        alike = p.alike;
+        quiet = λ r y low there. elim (cases_eq r k) [
+          | inl same ↦
+              subst (λ i. IsQuiet (mode_of y (hart i))) (sym same)
+              (its y (subst (λ i. slice_get p.last.cluster.ranks i ≡ Some y) same there))
+          | inr other ↦ p.quiet r y (omega (arith, low, other)) there
+        ];
+      }
+
+      goes : (k : ℕ) (d : State search) (p : Napped k d) (y : Rank) → slice_get p.last.cluster.ranks k ≡ Some y
+          → Dozes p.last.cluster k y
+          → Napped (suc k) d
+      goes k d p y there doze =
+          let a = p.last in
+          let h = hart k in
+          let its = (cluster_machine_law search).within k e a p.alike (within k) in
+          let made = made_within search.patterns k h y (its y there).0 in
+          let inside = has_hart y h (vain_live a.cluster k (asked y h) doze.none) in
+          let t = turn_in_vain k h a.cluster y there inside doze.none in
+          let new : State search =
+          record { cluster = t.0; good = good_after search k a.cluster t.0 y there a.good its t.1 } in
+          let n = nap a.cluster t.0 k y there inside doze (gone k h a.cluster t.0 y there made t.1) in
+          let set = n.ranks in
+          let z = n.now in
+          record {
+            ranks = p.ranks ++ k ∷ [];
+            last = new;
+            walk = (snoc (cluster_machine search) (cluster_machine_law search) p.ranks k d a new p.walk t.1).walk;
+            alike = alike_on search e a new p.alike (same_alike search.wild a.cluster t.0 (a.good).boxes n.same);
+            quiet = λ r u low here.
+                let at : slice_get (slice_set a.cluster.ranks k z) r ≡ Some u =
+                sym (ap (λ xs. slice_get xs r) set) ∙ here in
+                elim (cases_eq k r) [
+                  | inl same ↦
+                      let w = was_there a.cluster.ranks k z u
+                      (subst (λ i. slice_get (slice_set a.cluster.ranks k z) i ≡ Some u) (sym same) at) in
+                      subst (λ i. IsQuiet (mode_of u (hart i))) same
+                      (subst (λ v. IsQuiet (mode_of v h)) w.0 (inr n.waits))
+                  | inr other ↦
+                      p.quiet r u (omega (arith, low, other)) (sym (get-set_other a.cluster.ranks k r z other) ∙ at)
+                ];
+          }
+
+      one_more : (k : ℕ) (d : State search) (p : Napped k d) → (o : Option Rank) → slice_get p.last.cluster.ranks k ≡ o
+          → Napped (suc k) d
+      one_more k d p None is = stays k d p (λ y there. (let none = sym is ∙ there in absurd (cc)))
+      one_more k d p (Some y) is = elim (quiet_or_runs (mode_of y (hart k))) [
+        | inl quiet ↦ its quiet
+        | inr runs ↦ elim (dozes p.last p.alike k y is) [
+          | inl stopped ↦ its (inl stopped)
+          | inr doze ↦ goes k d p y is doze
+        ]
+      ]
+        where
+          its : IsQuiet (mode_of y (hart k)) → Napped (suc k) d
+          its quiet = stays k d p (λ z there. subst (λ v. IsQuiet (mode_of v (hart k))) (same_Some y z (sym is ∙ there)) quiet)
+
+      naps : (k : ℕ) (d : State search) → Alike search e d → Napped k d
+      naps zero d alike = record {
+        ranks = [];
+        last = d;
+        walk = refl;
+        alike = alike;
+        quiet = λ r y low there. absurd (omega (arith, low));
+      }
+      naps (suc k) d alike = (let p = naps k d alike in one_more k d p (slice_get p.last.cluster.ranks k) refl)
+
+      all_napped : (d : State search) (n : Napped (length e.cluster.ranks) d) → AllRest search n.last.cluster
+      all_napped d n r y there =
+          let low = slice_get_within n.last.cluster.ranks r y there in
+          let many = sym (length-map n.last.cluster.ranks awake) ∙ (((n.alike).1).ranks).many ∙ length-map e.cluster.ranks awake in
+          elim (dozes n.last n.alike r y there) [
+            | inl stopped ↦ inl stopped
+            | inr doze ↦ elim (n.quiet r y (omega (arith, low, many)) there) [
+              | inl stopped ↦ inl stopped
+              | inr waits ↦ inr (
+                record { waits = waits; on = doze.on },
+                doze.none,
+              )
+            ]
+          ]
+
+      -- turns lead to where all rest
+      pub asleep : (d : State search) → Alike search e d
+          → (ranks : List ℕ) × (last : State search) × GoesOn (cluster_machine search) ranks d last
+          × AllRest search last.cluster
+      asleep d alike =
+          let n = naps (length e.cluster.ranks) d alike in
+          (n.ranks, n.last, n.walk, all_napped d n)

@@ -84,7 +84,7 @@ module _ (search : Search) (Is : Cluster → Type 0) where
     Settles = λ n (a : State search). Settles search Is n a.cluster;
   }
 
-  module _ (nodes : AreClosed search Is) where
+  module _ (fits : (c : Cluster) → Is c → IsFit search c) where
     abbrev hart : ℕ → ℕ
     hart = search.harts
 
@@ -92,11 +92,11 @@ module _ (search : Search) (Is : Cluster → Type 0) where
     is = cluster_machine_law search
 
     -- the state of a node that is alike
-    node_of : (a : State search) → HasAlike search Is a.cluster
+    pub node_of : (a : State search) → HasAlike search Is a.cluster
         → (node : State search) × Is node.cluster
         × AreAlike search.wild (awake_cluster a.cluster) (awake_cluster node.cluster)
     node_of a h = (
-      record { cluster = h.0; good = good_alike search a.cluster h.0 h.2 a.good (nodes.fit h.0 h.1).stands },
+      record { cluster = h.0; good = good_alike search a.cluster h.0 h.2 a.good (fits h.0 h.1).stands },
       h.1,
       h.2,
     )
@@ -104,29 +104,16 @@ module _ (search : Search) (Is : Cluster → Type 0) where
     rests_still : (r : ℕ) (a b : State search) → Is a.cluster → AreAlike search.wild (awake_cluster a.cluster) (awake_cluster b.cluster)
         → Settles search Is 0 b.cluster
     rests_still r a b node k = (
-      λ s. is.within s a b k ((nodes.fit a.cluster node).within s),
+      λ s. is.within s a b k ((fits a.cluster node).within s),
       (a.cluster, node, alike_back search a b k),
     )
 
-    next : (r : ℕ) (a b : State search) → Is a.cluster → Turn r (hart r) a.cluster b.cluster
-        → (n : ℕ) × Settles search Is n b.cluster
-    next r a b node turn =
-        let t = taken r (hart r) a.cluster b.cluster turn in
-        elim (nodes.next r a.cluster t.rank node t.there) [
-          | inl stopped ↦ (
-            0,
-            rests_still r a b node
-                (rest_alike search r a b t.rank t.there ((nodes.fit a.cluster node).within r) (inl stopped) turn),
-          )
-          | inr leads ↦ leads b.cluster turn
-        ]
-
-    idle : (r : ℕ) (a b : State search) → Is a.cluster → weight_of (slice_get a.cluster.ranks r) (hart r) ≡ 0
+    pub idle : (r : ℕ) (a b : State search) → Is a.cluster → weight_of (slice_get a.cluster.ranks r) (hart r) ≡ 0
         → Turn r (hart r) a.cluster b.cluster
         → AreAlike search.wild (awake_cluster a.cluster) (awake_cluster b.cluster)
     idle r a b node light turn =
         let t = taken r (hart r) a.cluster b.cluster turn in
-        let fit = nodes.fit a.cluster node in
+        let fit = fits a.cluster node in
         let none = sym (ap (λ o. weight_of o (hart r)) t.there) ∙ light in
         elim (fit.rests r t.rank t.there (light_polls t.rank (hart r) (mode_of t.rank (hart r)) refl none)) [
           | inl waits ↦ rest_alike search r a b t.rank t.there (fit.within r) (inr waits) turn
@@ -177,28 +164,42 @@ module _ (search : Search) (Is : Cluster → Type 0) where
               (subst (λ k. Turn k (hart k) a.cluster b.cluster) (eqb-true s r among) turn),
         )
 
-    settles : (n : ℕ) (a : State search) → Settles search Is n a.cluster → IsOnItsWay (cluster_machine search) kept n a
+    pub settles : (n : ℕ) (a : State search) → Settles search Is n a.cluster → IsOnItsWay (cluster_machine search) kept n a
     settles zero a s = inl (node_of a s.1)
     settles (suc n) a s = elim s.1 [
       | inl alike ↦ inl (node_of a alike)
       | inr on ↦ goes n a s.0 on.0 on.1 on.2 on.3 on.4 on.5
     ]
 
-    asks : (n r : ℕ) (a : State search) → Settles search Is n a.cluster → IsWithin search a.cluster r
+    pub asks : (n r : ℕ) (a : State search) → Settles search Is n a.cluster → IsWithin search a.cluster r
     asks zero r a s = s.0 r
     asks (suc n) r a s = s.0 r
+
+  module _ (nodes : AreClosed search Is) where
+    next : (r : ℕ) (a b : State search) → Is a.cluster → Turn r (search.harts r) a.cluster b.cluster
+        → (n : ℕ) × Settles search Is n b.cluster
+    next r a b node turn =
+        let t = taken r (search.harts r) a.cluster b.cluster turn in
+        elim (nodes.next r a.cluster t.rank node t.there) [
+          | inl stopped ↦ (
+            0,
+            rests_still nodes.fit r a b node
+                (rest_alike search r a b t.rank t.there ((nodes.fit a.cluster node).within r) (inl stopped) turn),
+          )
+          | inr leads ↦ leads b.cluster turn
+        ]
 
     pub closed : IsClosed (cluster_machine search) kept
     closed = record {
       next = next;
       within = λ r a node. (nodes.fit a.cluster node).within r;
       room = λ a node. (nodes.fit a.cluster node).room;
-      idle = idle;
-      settles = settles;
-      asks = asks;
+      idle = idle nodes.fit;
+      settles = settles nodes.fit;
+      asks = asks nodes.fit;
     }
 
     -- what lasts holds of the node that is found if it holds where the run led
     pub found : (P : State search → Type 0) → IsLasting (cluster_machine search) P
         → HasFound (cluster_machine search) kept P
-    found P lasts = has_found (cluster_machine search) kept is closed P lasts
+    found P lasts = has_found (cluster_machine search) kept (cluster_machine_law search) closed P lasts

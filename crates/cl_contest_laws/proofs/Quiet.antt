@@ -117,7 +117,7 @@ module _ (p : Sent → Bool) (hub : HubView) (r hart : ℕ) where
       ap (λ b. b || rests_before p hub r (awake x) hart) (behind_awake x)
       ∙ ap (λ b. rests_behind p hub r x hart || b) (before_awake x stands)
 
-rests_awake : (p : Sent → Bool) (c : Cluster) (r hart : ℕ)
+pub rests_awake : (p : Sent → Bool) (c : Cluster) (r hart : ℕ)
     → ((x : Rank) → slice_get c.ranks r ≡ Some x → StandsAtCall x hart)
     → rests_if p (hub_of c.journal) r (slice_get (awake_cluster c).ranks r) hart
     ≡ rests_if p (hub_of c.journal) r (slice_get c.ranks r) hart

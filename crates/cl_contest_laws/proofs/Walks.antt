@@ -64,7 +64,7 @@ module _ (search : Search) (plans : Plans) (planned : IsPlanned search plans) wh
 
   module _ (Is : Cluster → Type 0) (nodes : AreClosed search Is) (n : ℕ) (start : State search)
       (settles : Settles search Is n start.cluster) where
-    walked_from : (rs ps : List ℕ) (at : State search) → Walk ps start at → (here there : Node) → at.cluster ≡ here.cluster
+    pub walked_from : (rs ps : List ℕ) (at : State search) → Walk ps start at → (here there : Node) → at.cluster ≡ here.cluster
         → GoesOnBy plans rs here there
         → Walked rs at there.cluster
     walked_from [] ps at done here there same walk = record {

@@ -1,0 +1,5 @@
+pub mod Machine
+pub mod Still
+pub mod Kept
+pub mod Walks
+pub mod Laws

@@ -1,0 +1,5 @@
+use Rattle.cl_patient_laws.proofs.Laws as source
+use Rattle.cl_patient_laws.proofs.laws.patient_law.Goals as goal
+
+pub returns : goal.returns
+returns c = source.patient_law

@@ -1,0 +1,2 @@
+pub mod Patient
+pub mod Laws
