@@ -287,6 +287,20 @@ module _ (image : ImageParts) (order : List ℕ) (start : Node) (found : Finding
     reached = reached;
   }
 
+  -- where moves lead from a node to an end, turns do
+  pub end_may : (i : ℕ) (node : Node) (n : ℕ) → slice_get nodes i ≡ Some node → GoesIn found.leads found.ends n i
+      → MayEnd (by_order order) node
+  end_may i node zero at goes =
+      let e = explored.sound goes.0 i goes.1 in
+      let same : e.0 ≡ node = same_Some e.0 node (sym e.1 ∙ at) in
+      (node, ([], refl), subst (λ (x : Node). IsEnd (by_order order) x.cluster) same e.2)
+  end_may i node (suc n) at goes =
+      let led = goes.1 in
+      let v = explored.leads led.0 led.1 led.2 in
+      let there : slice_get nodes goes.0 ≡ Some v.1 = ap (slice_get nodes) (sym led.4) ∙ v.3 in
+      path_by image order start nodes found.leads explored.how whole i goes.0 node v.1
+      (lead_edge found.leads i goes.0 led) at there (end_may goes.0 v.1 n there goes.2)
+
   -- ---- nodes that aren't marked lead to no end
 
   module _ (marks : List Bool) (many : length marks ≡ length found.kept)
@@ -341,19 +355,6 @@ module _ (image : ImageParts) (order : List ℕ) (start : Node) (found : Finding
         }
 
     -- ---- where each is marked
-
-    end_may : (i : ℕ) (node : Node) (n : ℕ) → slice_get nodes i ≡ Some node → GoesIn found.leads found.ends n i
-        → MayEnd (by_order order) node
-    end_may i node zero at goes =
-        let e = explored.sound goes.0 i goes.1 in
-        let same : e.0 ≡ node = same_Some e.0 node (sym e.1 ∙ at) in
-        (node, ([], refl), subst (λ (x : Node). IsEnd (by_order order) x.cluster) same e.2)
-    end_may i node (suc n) at goes =
-        let led = goes.1 in
-        let v = explored.leads led.0 led.1 led.2 in
-        let there : slice_get nodes goes.0 ≡ Some v.1 = ap (slice_get nodes) (sym led.4) ∙ v.3 in
-        path_by image order start nodes found.leads explored.how whole i goes.0 node v.1
-        (lead_edge found.leads i goes.0 led) at there (end_may goes.0 v.1 n there goes.2)
 
     pub all_may_end : AreSound found.leads found.ends marks
         → ((i : ℕ) → i < length marks → slice_get marks i ≡ Some true) → HaveHarts (by_order order) start.cluster
