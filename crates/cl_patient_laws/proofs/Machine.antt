@@ -147,9 +147,9 @@ module _ (search : Search) (may_wait : search.may_wait ≡ true) where
     first = λ rs s a b out sure within room goes. elim (is.first rs s a b out sure within room goes.0) [
       | inl alike ↦ inl alike
       | inr swap ↦ inr (
-          swap.0,
-          λ r c found among takes. exchanged rs found r s a c out among sure goes.1
-              (swap.1 r c found among (plain found r b c takes)),
-        )
+        swap.0,
+        λ r c found among takes. exchanged rs found r s a c out among sure goes.1
+            (swap.1 r c found among (plain found r b c takes)),
+      )
     ];
   }

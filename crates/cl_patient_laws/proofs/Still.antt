@@ -91,6 +91,6 @@ module _ (search : Search) where
       | inl vain ↦ inr vain
       | inr other ↦
           let no = none_there c r (asked rank (search.harts r)) waits.1 in
-          elim other [ | inl claim ↦ absurd (no.0 claim) | inr rest ↦ absurd (no.1 rest.1) ]
+          elim other [ inl claim ↦ absurd (no.0 claim) | inr rest ↦ absurd (no.1 rest.1) ]
     ]
   ]
