@@ -457,11 +457,12 @@ pub more_from : (how : How) (order : List ℕ) (standing : Standing) (old new : 
     → NotesStuck companies (option_map (λ ranks. ranks.items) visit.stuck) done after
     → rest ≡ resting ++ visit.resting ∷ [] → is_some visit.need ≡ false
     → SoFarFrom how order standing new now after rest (done + 1)
-more_from how order standing old new ends now companies after resting rest done so_far inside room visit visits notes stuck behind none =
+more_from how order standing old new ends now companies after resting rest done so low room visit visits notes stuck behind none =
     λ image here stands way.
-    let s = so_far image here stands way in
-    let still = still_inside how image order here old new ends now companies after resting rest done s.0 inside room visit visits in (
-      more how image order here old new ends now companies after resting rest done s.0 inside room visit visits notes stuck
+    let s = so image here stands way in
+    let still = still_inside how image order here old new ends now companies after resting rest done s.0 low room visit
+    visits in (
+      more how image order here old new ends now companies after resting rest done s.0 low room visit visits notes stuck
           behind none,
       omega (arith, still),
     )

@@ -1,4 +1,4 @@
-use Rattle.std.proofs.Common.{◌≡◌, ◌∙◌, ◌-◌, ap, arith, inl, inr, subst, sym, length, ◌<◌, refl}
+use Rattle.std.proofs.Common.{◌≡◌, ◌-◌, arith, inl, inr, subst, sym, length, ◌<◌, refl}
 use Rattle.std.specs.Prelude.{IfSome}
 use Rattle.std.proofs.lemmas.Bool.{cases_lt}
 use Rattle.cl_explore.specs.Covering.{HasRoomAt}
@@ -74,7 +74,7 @@ pub returns-clause-ends : goal.returns-clause-ends
 returns-clause-ends g c = λ standing room begun.
     tells_from (how_in c.args.course.now) c.args.course.now.order.now standing c.rest.search _
     c.rest.done room (c.rest.invariant.0 standing begun) refl refl refl
-    (c.saturating_sub-left.ensures ∙ ap (λ n. n - c.rest.done) (c.len-2.ensures ∙ c.rest.search.nodes.ok.0))
+    (omega (arith, c.saturating_sub-left.ensures, c.len-2.ensures, c.rest.search.nodes.ok.0))
 
 pub returns-clause-most : goal.returns-clause-most
 returns-clause-most g c =
