@@ -45,7 +45,7 @@ settles_in search Is Also all (suc n) c s = (
 -- ---- a turn of a node's rank
 
 module _ (search : Search) (plans : Plans) (planned : IsPlanned search plans) (Is : Cluster → Type 0) where
-  goes_settled : (r : ℕ) (node : Node) (rank : Rank)
+  pub goes_settled : (r : ℕ) (node : Node) (rank : Rank)
       → IsDone (plans r) rank ⊎ WhereverLeads plans node r (λ next. IsSettled search Is next.cluster)
       → GoesOnSettled search Is node.cluster r rank
   goes_settled r node rank (inl done) = inl (subst (λ h. IsStopped (mode_of rank h)) (planned r 0) (done 0))

@@ -2,4 +2,4 @@ pub mod Machine
 pub mod Still
 pub mod Kept
 pub mod Walks
-pub mod Laws
+pub mod Patience

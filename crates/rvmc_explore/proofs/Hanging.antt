@@ -16,7 +16,7 @@ use Rattle.cl_rest_laws.specs.Rests.{rests}
 use Rattle.cl_rests.specs.Sets.{AreResting, in_set}
 use Rattle.cl_patient_laws.specs.Patient.{EndsPatiently, HangsIfSendsWait}
 use Rattle.cl_patient_laws.specs.Laws.{HasMove, IsMove, IsMoveGraph, IsPatientTrap, Moves}
-use Rattle.cl_patient_laws.proofs.Laws.{end_law, never_inside, patient_law}
+use Rattle.cl_patient_laws.proofs.Patience.{end_law, never_inside, patient_law}
 use Rattle.cl_moves.specs.Standing.{IsWay, by_order, first_node, node_of}
 use Rattle.cl_explore.specs.Below.{Contest, IsGood}
 use Rattle.cl_explore.proofs.Below.{good_law}

@@ -1,4 +1,4 @@
-use Rattle.cl_patient_laws.proofs.Laws as source
+use Rattle.cl_patient_laws.proofs.Patience as source
 use Rattle.cl_patient_laws.proofs.laws.patient_law.Goals as goal
 
 pub returns : goal.returns

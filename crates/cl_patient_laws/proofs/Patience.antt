@@ -287,7 +287,7 @@ module _ (search : Search) (plans : Plans) (nodes : List Node) (moves : Moves) (
     abbrev first : State search
     first = record { cluster = start.cluster; good = well.good }
 
-    came_there : WalkedBy search plans planned ranks first end
+    abbrev came_there : WalkedBy search plans planned ranks first end
     came_there = came search plans nodes start well settled closed ranks last (walk_of plans steps start.cluster end start.had run follow)
 
     -- no patient turns lead to an end
