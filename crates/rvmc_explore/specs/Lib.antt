@@ -3,6 +3,7 @@ pub mod Needs
 pub mod Searched
 pub mod Marks
 pub mod Endless
+pub mod Patient
 pub mod Outcomes
 pub mod InnerOutcomes
 pub mod Telling

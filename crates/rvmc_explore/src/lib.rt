@@ -13,6 +13,7 @@ mod judging;
 pub mod laws;
 mod needs;
 mod outcomes;
+mod patient;
 mod putting;
 mod recording;
 mod splitting;

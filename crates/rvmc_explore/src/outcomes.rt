@@ -286,7 +286,9 @@ pub(crate) fn tell(
 {
     let mut told = tell_ends(alloc, image, order, found, heard)?;
     let nodes = found.nodes.as_slice();
-    let marks = leading_to(alloc, found, found.ends.as_slice())?;
+    let leads = found.leads.as_slice();
+    let ends = found.ends.as_slice();
+    let marks = leading_to(alloc, found.nodes.len(), leads, ends)?;
     for place in 0..found.companies.len() {
         let company = &found.companies[place];
         tell_company(alloc, image, nodes, &mut told, marks.as_slice(), company)?;
