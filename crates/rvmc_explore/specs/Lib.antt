@@ -1,5 +1,6 @@
 pub mod Ends
 pub mod Needs
+pub mod HangTexts
 pub mod Searched
 pub mod Marks
 pub mod Endless

@@ -7,6 +7,7 @@ mod closing;
 mod counting;
 mod differences;
 mod ends;
+mod hang_texts;
 mod heads;
 mod hearing;
 mod judging;
