@@ -3,8 +3,10 @@ use Rattle.std.specs.Prelude.{ℕ, zero, suc, ◌<◌, ◌≡◌, ◌⊎◌, ◌
 use Rattle.std.proofs.Common.{refl, sym, ap, ◌∙◌, subst, arith, inl, inr}
 use Rattle.std.proofs.lemmas.Option.{same_Some, slice_get_within}
 use Rattle.cl_machine.proofs.Lists.{filter-keeps, filter-skips}
+use Rattle.rv_image_types.specs.declared.images.ImageParts.{ImageParts}
+use Rattle.cl_order_laws.specs.Closed.{Node}
 use Rattle.cl_explore.specs.Covering.{HasLead, HasLeadBy}
-use Rattle.cl_explore.specs.Ends.{Findings}
+use Rattle.cl_explore.specs.Ends.{ExploredFrom, Findings}
 use Rattle.cl_explore.specs.declared.leads.Lead.{Lead}
 use Rattle.rvmc_explore.specs.Endless.{AreComplete}
 use Rattle.rvmc_explore.specs.Patient.{ArePatient, Hangs, LeadInside, PatientlyGoesIn, PatientlyGoesTo, TellsHanging, TellsMarkedAlone, is_patient, rests_at, rests_in}
@@ -135,9 +137,9 @@ pub tells : (found : Findings) (leads : List Lead) (all some : List Bool) (told 
 tells found leads all some None inside are these those none = λ i low.
     let here : i < length all = omega (arith, low, these.many) in
     elim (either_mark all i here) [
-      | inl on ↦
-          let goes = those.sound i (none i here on) in inl (goes.0, patiently found leads are goes.0 i goes.1)
-      | inr off ↦ inr (λ goes. not_both (slice_get all i) off (is_set found.leads found.ends all
+      | inl set ↦
+          let goes = those.sound i (none i here set) in inl (goes.0, patiently found leads are goes.0 i goes.1)
+      | inr unset ↦ inr (λ goes. not_both (slice_get all i) unset (is_set found.leads found.ends all
           (λ n j led. let low = inside n j led in omega (arith, low, these.many)) these.complete goes.0 i here goes.1))
     ]
 tells found leads all some (Some i) inside are these those alone =
@@ -151,3 +153,14 @@ tells found leads all some (Some i) inside are these those alone =
             (by_those found leads are goes.0 i goes.1));
       },
     )
+
+-- ---- what was searched
+
+-- its moves led to nodes that are kept
+pub lead_inside : (image : ImageParts) (order : List ℕ) (start : Node) (found : Findings)
+    → ExploredFrom image order start found → LeadInside found
+lead_inside image order start found explored = λ i j led.
+    let v = explored.leads led.0 led.1 led.2 in
+    let low : led.1.to < length explored.nodes = slice_get_within explored.nodes led.1.to v.1 v.3 in
+    let here : led.1.to < length found.kept = omega (arith, low, explored.are.many) in
+    subst (λ n. n < length found.kept) led.4 here

@@ -1,11 +1,11 @@
 pub mod Ends
 pub mod Needs
-pub mod HangTexts
 pub mod Searched
 pub mod Marks
 pub mod Endless
 pub mod Patient
 pub mod Outcomes
+pub mod HangTexts
 pub mod InnerOutcomes
 pub mod Telling
 pub mod InnerTelling

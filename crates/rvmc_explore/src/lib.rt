@@ -8,6 +8,7 @@ mod counting;
 mod differences;
 mod ends;
 mod hang_texts;
+mod hangs;
 mod heads;
 mod hearing;
 mod judging;
