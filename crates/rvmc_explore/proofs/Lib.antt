@@ -1,6 +1,7 @@
 pub mod Listed
 pub mod Marked
 pub mod Endless
+pub mod Patience
 pub mod EndTexts
 pub mod OneList
 pub mod ToEnds

@@ -3,7 +3,9 @@ pub mod Needs
 pub mod Searched
 pub mod Marks
 pub mod Endless
+pub mod Patient
 pub mod Outcomes
+pub mod HangTexts
 pub mod InnerOutcomes
 pub mod Telling
 pub mod InnerTelling

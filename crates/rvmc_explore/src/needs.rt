@@ -160,7 +160,7 @@ fn awaited_sends(alloc: Global, hub: &HubState, own: &RankState) -> Result<Vec<W
 }
 
 /// `rank R hart H `, before how the hart stands.
-fn hart_head(alloc: Global, rank: usize, number: usize) -> Result<String, AllocError>
+pub(crate) fn hart_head(alloc: Global, rank: usize, number: usize) -> Result<String, AllocError>
     ensures { IfOk result (λ text. string_bytes text ≡ hart_head rank number) }
 {
     format!(in alloc; "rank {rank} hart {number} ")
@@ -265,7 +265,7 @@ fn put_held_rank(
 }
 
 /// Adds how a rank is held up, if it is there.
-fn put_held(
+pub(crate) fn put_held(
     alloc: Global,
     text: &mut Vec<u8>,
     image: &Image,

@@ -28,6 +28,8 @@ pub struct Outcome {
     pub ends: usize,
     /// Whether it is of ranks that need buffers.
     pub need: bool,
+    /// Whether it is of a state from which no run ends if sends wait.
+    pub hang: bool,
 }
 
 impl Outcome {
@@ -100,7 +102,7 @@ fn is_body(outcome: &Outcome, body: &[u8]) -> bool
 }
 
 /// The place of the outcome with this text.
-fn place_of(told: &[Outcome], body: &[u8]) -> Option<usize>
+pub(crate) fn place_of(told: &[Outcome], body: &[u8]) -> Option<usize>
     ensures there { IfSome result (IsBodyAt told.now body.now) }
     ensures new { IfNone result (HasBody told.now body.now → ⊥) }
 {
@@ -114,7 +116,7 @@ fn place_of(told: &[Outcome], body: &[u8]) -> Option<usize>
 
 /// The outcome at the node of this number, with this text, which so many ends have, and whether it is of ranks that need
 /// buffers.
-fn outcome_of(
+pub(crate) fn outcome_of(
     alloc: Global,
     nodes: &[KeptNode],
     node: usize,
@@ -131,6 +133,7 @@ fn outcome_of(
         body,
         ends,
         need,
+        hang: false,
     })
 }
 
@@ -286,7 +289,9 @@ pub(crate) fn tell(
 {
     let mut told = tell_ends(alloc, image, order, found, heard)?;
     let nodes = found.nodes.as_slice();
-    let marks = leading_to(alloc, found, found.ends.as_slice())?;
+    let leads = found.leads.as_slice();
+    let ends = found.ends.as_slice();
+    let marks = leading_to(alloc, found.nodes.len(), leads, ends)?;
     for place in 0..found.companies.len() {
         let company = &found.companies[place];
         tell_company(alloc, image, nodes, &mut told, marks.as_slice(), company)?;

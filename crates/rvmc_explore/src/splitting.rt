@@ -45,7 +45,8 @@ fn leading_nowhere(
 ) -> Result<Option<usize>, AllocError>
     ensures { IfOk result (λ node. IfSome node (λ node. node < length found.now.nodes.items)) }
 {
-    let marks = leading_to(alloc, found, numbers)?;
+    let leads = found.leads.as_slice();
+    let marks = leading_to(alloc, found.nodes.len(), leads, numbers)?;
     for node in 0..found.nodes.len() {
         if !*marks.get(node).unwrap_or(&true) {
             return Ok(Some(node));

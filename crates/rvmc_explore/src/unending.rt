@@ -11,7 +11,7 @@ use cl_explore::{Exploration, Lead};
 use std::alloc::{AllocError, Global};
 
 /// Marks the node of this number, if there is a mark for it.
-fn mark(marks: &mut [bool], node: usize)
+pub(crate) fn mark(marks: &mut [bool], node: usize)
     ensures only { (i : ℕ) → slice_get marks.new i ≡ Some true → (slice_get marks.old i ≡ Some true) ⊎ (node ≡ i) }
     ensures now { IsMarkedIfThere marks.new node }
     ensures stay { HaveStayed marks.old marks.new }
@@ -36,7 +36,7 @@ fn marked_at(alloc: Global, count: usize, nodes: &[usize]) -> Result<Vec<bool>, 
 }
 
 /// Whether the node of this number is marked.
-fn is_marked(marks: &[bool], node: usize) -> bool
+pub(crate) fn is_marked(marks: &[bool], node: usize) -> bool
     ensures yes { IsTrue result → slice_get marks.now node ≡ Some true }
     ensures no { IsFalse result → slice_get marks.now node ≡ Some true → ⊥ }
 {
@@ -78,19 +78,20 @@ fn mark_all(marks: &mut [bool], leads: &[Lead]) -> bool
     more
 }
 
-/// A mark for each node that leads to one of these, and for no other.
+/// Of so many nodes, a mark for each that leads by these moves to one of the targets, and for no other.
 pub(crate) fn leading_to(
     alloc: Global,
-    found: &Exploration,
-    nodes: &[usize],
+    count: usize,
+    leads: &[Lead],
+    targets: &[usize],
 ) -> Result<Vec<bool>, AllocError>
-    ensures many { IfOk result (λ marks. length marks.items ≡ length found.now.nodes.items) }
-    ensures sound { IfOk result (λ marks. AreSound found.now.leads.items nodes.now marks.items) }
-    ensures complete { IfOk result (λ marks. AreComplete found.now.leads.items nodes.now marks.items) }
+    ensures many { IfOk result (λ marks. length marks.items ≡ count) }
+    ensures sound { IfOk result (λ marks. AreSound leads.now targets.now marks.items) }
+    ensures complete { IfOk result (λ marks. AreComplete leads.now targets.now marks.items) }
 {
-    let mut marks = marked_at(alloc, found.nodes.len(), nodes)?;
+    let mut marks = marked_at(alloc, count, targets)?;
     'rest: loop {
-        if !mark_all(marks.as_mut_slice(), found.leads.as_slice()) {
+        if !mark_all(marks.as_mut_slice(), leads) {
             return Ok(marks);
         }
     }
@@ -117,7 +118,9 @@ pub(crate) fn is_unending(alloc: Global, found: &Exploration) -> Result<bool, Al
     if found.left > 0 {
         return Ok(false);
     }
-    let marks = leading_to(alloc, found, found.ends.as_slice())?;
+    let leads = found.leads.as_slice();
+    let ends = found.ends.as_slice();
+    let marks = leading_to(alloc, found.nodes.len(), leads, ends)?;
     Ok(has_unmarked(marks.as_slice()))
 }
 

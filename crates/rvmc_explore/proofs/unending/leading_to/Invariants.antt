@@ -5,9 +5,9 @@ use Rattle.rvmc_explore.proofs.unending.leading_to.Given as goal
 
 abbrev pub invariant-rest : goal.invariant-rest
 invariant-rest l =
-    (length l.marks.items ≡ length l.found.nodes.items)
-    × AreSound l.found.leads.items l.nodes l.marks.items
-    × ((k i : ℕ) → slice_get l.nodes k ≡ Some i → IsMarkedIfThere l.marks.items i)
+    (length l.marks.items ≡ l.count)
+    × AreSound l.leads l.targets l.marks.items
+    × ((k i : ℕ) → slice_get l.targets k ≡ Some i → IsMarkedIfThere l.marks.items i)
 
 abbrev pub decreases-rest : goal.decreases-rest
 decreases-rest l = unmarked l.marks.items
