@@ -8,6 +8,7 @@ pub mod Listening
 pub mod Orders
 pub mod Ends
 pub mod Visiting
+pub mod Needing
 pub mod Runs
 pub mod Likeness
 pub mod Sorting

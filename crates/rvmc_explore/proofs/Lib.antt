@@ -8,3 +8,5 @@ pub mod EachStart
 pub mod Apart
 pub mod Heard
 pub mod Places
+pub mod Needed
+pub mod Statuses
