@@ -1,10 +1,11 @@
 -- What a search knows of ranks that need buffers, from one function to the next.
-use Rattle.std.specs.Prelude.{ℕ, ◌≡◌, ◌⊎◌, Bool, List, true, false, Option, None, Some, IfSome}
+use Rattle.std.specs.Prelude.{◌≡◌, Bool, true, false, Option, None, Some, IfSome}
 use Rattle.std.proofs.Common.{refl, sym, ◌∙◌, inl, inr, subst}
 use Rattle.rv_image_types.specs.declared.images.ImageParts.{ImageParts}
 use Rattle.cl_explore.specs.Ends.{Findings}
-use Rattle.cl_explore.specs.How.{How, IsHaltOf, waits_in}
-use Rattle.cl_explore.specs.Needing.{AreSought, IsBegunWith, IsSearchHalt, NotesNeed, SaysNeeds, needs_of}
+use Rattle.cl_explore.specs.How.{How, IsHaltOf}
+use Rattle.cl_explore.specs.Knowing.{IsBegunWith, IsSearchHalt, NotesNeed, needs_of}
+use Rattle.cl_explore.specs.Needing.{AreSought, SaysNeeds}
 use Rattle.cl_explore.specs.declared.course.Way.{Way}
 use Rattle.cl_explore.specs.declared.exploring.Exploration.{Exploration}
 use Rattle.cl_explore.specs.declared.halt.Halt.{Halt}
@@ -19,13 +20,6 @@ pub halt_of : (goes : Way) (how : How) (told : Type 0) (why : Halt) → IsHaltOf
 halt_of goes how told (halt.Fault fault) is = tt
 halt_of goes how told halt.Outside is = is
 halt_of goes how told halt.Needed is = absurd is
-
--- the listener was told of more since
-pub halt_on : (goes : Way) (how : How) (one other : Type 0) (why : Halt) → (one → other) → IsSearchHalt goes how one why
-    → IsSearchHalt goes how other why
-halt_on goes how one other (halt.Fault fault) on is = tt
-halt_on goes how one other halt.Outside on is = is
-halt_on goes how one other halt.Needed on is = (is.0, is.1, on is.2)
 
 -- ---- from one search to the next
 

@@ -9,6 +9,7 @@ pub mod Orders
 pub mod Ends
 pub mod Visiting
 pub mod Needing
+pub mod Knowing
 pub mod Runs
 pub mod Likeness
 pub mod Sorting

@@ -12,7 +12,8 @@ ghost use Rattle.cl_explore.specs.declared.course.Way.TheVariants as ways;
 ghost use Rattle.cl_explore.specs.Ends.{AreTurnsTo, BeginsAt, Explored, ExploredBehind, ExploredPlainly, ExploresFrom, IsBounded, Notes, StillExplores, findings};
 ghost use Rattle.cl_explore.specs.Listening.{CameByOrder, IsEndNode, IsImageFor, IsNeedNode, IsSearchOf};
 ghost use Rattle.cl_explore.specs.Visiting.{NotesVisit, findings_of};
-ghost use Rattle.cl_explore.specs.Needing.{AreSought, IsSearchHalt, NotesNeed, SaysNeeds};
+ghost use Rattle.cl_explore.specs.Needing.{AreSought, SaysNeeds};
+ghost use Rattle.cl_explore.specs.Knowing.{IsSearchHalt, NotesNeed};
 ghost use Rattle.cl_explore.specs.Orders.{OrderFaultHolds};
 ghost use Rattle.cl_lines.specs.Telling.{TellsProgress};
 
@@ -110,7 +111,7 @@ pub(crate) fn begin(
 }
 
 /// The moves of all nodes from a standing on, within bounds.
-#[tactic(auto, using(cl_lines::proofs::Behind::nothing_told))]
+#[tactic(auto, using(cl_lines::proofs::Behind::nothing_told, crate::proofs::Needing::halt_of))]
 fn search_nodes<L: Listener, E: Write>(
     course: &Manner<'_>,
     search: &mut Search,
@@ -304,7 +305,7 @@ fn tell_progress<E: Write>(
 /// The moves of one node after another are made, within bounds. None where calls for what is there are made at once, and a
 /// hub came to have too many posts for that. Where standard sends may wait for their receives, the search is halted at the first
 /// node at which ranks need buffers: one is enough to know that the program isn't safe without them.
-#[tactic(auto, using(cl_lines::proofs::Behind::nothing_told))]
+#[tactic(auto, using(cl_lines::proofs::Behind::nothing_told, crate::proofs::Needing::halt_of))]
 fn visit_each<L: Listener, E: Write>(
     course: &Manner<'_>,
     search: &mut Search,

@@ -4,7 +4,7 @@ ghost use Rattle.std.specs.Prelude.{◌≡◌, ◌<◌, IfErr, IfSome, IsTrue, l
 ghost use Rattle.cl_contests.specs.Kept.{search_of};
 ghost use Rattle.cl_explore.specs.How.{by_contest};
 ghost use Rattle.cl_explore.specs.Listening.{IsImageFor};
-ghost use Rattle.cl_explore.specs.Needing.{IsBegunWith, needs_of};
+ghost use Rattle.cl_explore.specs.Knowing.{IsBegunWith, needs_of};
 ghost use Rattle.cl_explore.specs.Orders.{OrderFaultHolds};
 
 use crate::course::{Course, Manner, Way};

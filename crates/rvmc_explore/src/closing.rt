@@ -61,7 +61,9 @@ pub(crate) fn needs_line(alloc: Global, needs: Needs) -> Result<String, AllocErr
     ensures { IfOk result (λ text. string_bytes text ≡ needs_line needs) }
 {
     if is_unknown(needs) {
-        format!(in alloc; "not all: whether ranks need buffers is unknown; raise --states, or use --buffered\n")
+        format!(in alloc;
+            "not all: whether ranks need buffers is unknown; raise --states, or use --buffered\n"
+        )
     } else {
         Ok(String::new(alloc))
     }

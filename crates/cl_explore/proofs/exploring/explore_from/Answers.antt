@@ -53,8 +53,8 @@ returns-in-Some-clause-needs g c =
     let order = c.args.course.now.order.now in
     says_whole c.args.course.now.buffered image (findings c.in-Some.found)
     (g.L.Listener.told_need c.search_by_patterns.new.listener image order) c.known_before-known.result
-    c.search_by_patterns.new.known c.needs_of.result c.known_before-known.ensures c.in_ok-search_by_patterns.ensures.known
-    (rw c.in-Some.is at c.in_ok-search_by_patterns.ensures.whole) c.needs_of.ensures
+    c.search_by_patterns.new.known c.needs_of-found.result c.known_before-known.ensures c.in_ok-found.ensures.known
+    (rw c.in-Some.is at c.in_ok-found.ensures.whole) c.needs_of-found.ensures
 
 pub returns-in-Some-2-clause-needs : goal.returns-in-Some-2-clause-needs
 returns-in-Some-2-clause-needs g c =
@@ -63,7 +63,7 @@ returns-in-Some-2-clause-needs g c =
     says_known c.args.course.now.buffered image (findings c.in-Some-2.found)
     (g.L.Listener.told_need c.search_by_patterns.new.listener image order)
     (g.L.Listener.told_need c.search_at_once.new.listener image order) c.known_before-known.result
-    c.search_by_patterns.new.known c.known_before-known.ensures c.in_ok-search_by_patterns.ensures.known
+    c.search_by_patterns.new.known c.known_before-known.ensures c.in_ok-found.ensures.known
     c.search_at_once.ensures.still
 
 pub returns-clause-needs : goal.returns-clause-needs
@@ -73,5 +73,5 @@ returns-clause-needs g c =
     says_known c.args.course.now.buffered image (findings c.in_ok-found-3.found)
     (g.L.Listener.told_need c.search_by_patterns.new.listener image order)
     (g.L.Listener.told_need c.search_plainly.new.listener image order) c.known_before-known.result
-    c.search_by_patterns.new.known c.known_before-known.ensures c.in_ok-search_by_patterns.ensures.known
+    c.search_by_patterns.new.known c.known_before-known.ensures c.in_ok-found.ensures.known
     (λ was. c.search_plainly.ensures.still (c.search_at_once.ensures.still was))

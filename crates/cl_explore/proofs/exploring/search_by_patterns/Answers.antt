@@ -48,9 +48,9 @@ loop-try-preserved g c =
         | else-is_empty w ↦ subst (λ (p : Patterns). p.may_wait ≡ false) (sym w.patterns-is)
             (c.in_ok-add_waits.ensures.still ∙ c.loop-try.invariant.2 buffers)
       ],
-      note_on (AreSought buffered image × told) (AreSought buffered image × last) c.args.known c.search.new.known
+      note_on (AreSought buffered image × told) (AreSought buffered image × last) c.args.known.now c.search.new.known
           (λ v. (v.0, c.tell_first_needs.ensures.still v.1))
-          (noted_then buffered may_wait image before told c.args.known c.loop-try.known c.search.new.known one
+          (noted_then buffered may_wait image before told c.args.known.now c.loop-try.known c.search.new.known one
           (λ buffers. c.in_ok-add_waits.ensures.still ∙ c.loop-try.invariant.2 buffers) c.search.ensures.still
           c.loop-try.invariant.3 c.search.ensures.known),
     )
@@ -105,7 +105,7 @@ returns-then-is_wanted-clause-known g c =
     let one : image.harts ≡ 1 = omega (arith, c.if-parts-ne1.false, same) in
     noted_then c.args.course.now.buffered c.add_waits.new.patterns.may_wait image
     (g.L.Listener.told_need c.loop-try.listener image order) (g.L.Listener.told_need c.search.new.listener image order)
-    c.args.known c.loop-try.known c.search.new.known one
+    c.args.known.now c.loop-try.known c.search.new.known one
     (λ buffers. c.in_ok-add_waits.ensures.still ∙ c.loop-try.invariant.2 buffers) c.search.ensures.still
     c.loop-try.invariant.3 c.search.ensures.known
 
@@ -118,9 +118,9 @@ returns-then-not-patterns-clause-known g c =
     let one : image.harts ≡ 1 = omega (arith, c.if-parts-ne1.false, same) in
     let told = g.L.Listener.told_need c.search.new.listener image order in
     let last = g.L.Listener.told_need c.tell_first_needs.new.listener image order in
-    note_on (AreSought buffered image × told) (AreSought buffered image × last) c.args.known c.search.new.known
+    note_on (AreSought buffered image × told) (AreSought buffered image × last) c.args.known.now c.search.new.known
     (λ v. (v.0, c.tell_first_needs.ensures.still v.1))
     (noted_then buffered c.add_waits.new.patterns.may_wait image
-    (g.L.Listener.told_need c.loop-try.listener image order) told c.args.known c.loop-try.known c.search.new.known one
+    (g.L.Listener.told_need c.loop-try.listener image order) told c.args.known.now c.loop-try.known c.search.new.known one
     (λ buffers. c.in_ok-add_waits.ensures.still ∙ c.loop-try.invariant.2 buffers) c.search.ensures.still
     c.loop-try.invariant.3 c.search.ensures.known)

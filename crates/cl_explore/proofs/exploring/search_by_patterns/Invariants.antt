@@ -2,7 +2,8 @@
 -- need buffers is known only if the listener was told of some.
 use Rattle.std.specs.Prelude.{◌≡◌, false, true}
 use Rattle.cl_lines.specs.Telling.{TellsProgress}
-use Rattle.cl_explore.specs.Needing.{AreSought, NotesNeed}
+use Rattle.cl_explore.specs.Knowing.{NotesNeed}
+use Rattle.cl_explore.specs.Needing.{AreSought}
 use Rattle.cl_explore.proofs.exploring.search_by_patterns.Given as goal
 
 abbrev pub invariant-loop-try : goal.invariant-loop-try
@@ -11,4 +12,4 @@ invariant-loop-try g l =
     × g.L.Listener.holds l.listener l.image l.course.order.now
     × (l.course.buffered ≡ true → l.patterns.may_wait ≡ false)
     × NotesNeed (AreSought l.course.buffered l.image × g.L.Listener.told_need l.listener l.image l.course.order.now)
-      l.fn.known l.known
+    l.fn.known l.known
