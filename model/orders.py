@@ -32,6 +32,8 @@ CLOSING = re.compile(
 
 UNENDING = b"some runs go on for ever\n"
 
+UNKNOWN = b"not all: whether ranks need buffers is unknown; raise --states, or use --buffered\n"
+
 # how many ends an outcome stands for
 LOOKING = re.compile(rb"(\d+) ends look like outcome (\d+)\n")
 
@@ -586,6 +588,9 @@ class Told:
         at = stop if text[at:stop] == self.looking_lines() else at
         self.is_unending = text[at:].startswith(UNENDING)
         at += len(UNENDING) if self.is_unending else 0
+        # whether ranks that need buffers were looked for in vain, and not everywhere
+        self.is_unknown = text[at:].startswith(UNKNOWN)
+        at += len(UNKNOWN) if self.is_unknown else 0
         closing = CLOSING.fullmatch(text[at:])
         self.is_whole = self.is_buffered = None
         if closing and int(closing[1]) == len(self.heads):
@@ -653,7 +658,7 @@ class Told:
 
     def status(self):
         """The status that goes with it."""
-        if not self.is_whole:
+        if not self.is_whole or self.is_unknown:
             return 4
         lines = b"".join(self.ends())
         if re.search(rb"^rank \d hart \d trapped ", lines, re.MULTILINE):

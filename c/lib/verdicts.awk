@@ -88,7 +88,7 @@ END {
     left_out = last
     sub(/^not all: /, "", left_out)
     if (left_out ~ / states? (is|are) left$/) print "" >(room "more")
-    enough = " takes more than an eighth of " states " states"
+    enough = " takes more than " states " states"
     is_unbuffered = sends == "without buffers"
     if (!is_unbuffered && last !~ / with buffered sends$/) sends = ""
     print "outcomes: " outcomes()

@@ -37,11 +37,10 @@ use Rattle.cl_rests.specs.Sets.{AreResting}
 use Rattle.cl_rests.specs.Telling.{HaveOneHart, IsNeedVerdict}
 use Rattle.cl_explore.specs.How.{HasRoom, How, IsFitFor, MayBegin, at_once, by_contest, plainly, waits_in}
 use Rattle.cl_explore.specs.Covering.{AreLeads, AreNodes, HasRoomAt, IsClosedAt, IsClosedFrom, Reaches}
-use Rattle.cl_explore.specs.Ends.{AreAlikeEnds, AreAllEnds, AreRestingAt, AreTurnsTo, BeginsAt, BeginsWell, Explored, ExploredBehind, ExploredFrom, ExploresFrom, Findings, IsBounded, Notes}
+use Rattle.cl_explore.specs.Ends.{AreAlikeEnds, AreAllEnds, AreRestingAt, AreTurnsTo, BeginsAt, BeginsWell, Explored, ExploredBehind, ExploredFrom, ExploresFrom, Findings, Notes}
 use Rattle.cl_explore.specs.Orders.{IsLedBy, named}
 use Rattle.cl_explore.specs.Searching.{AreFound, Arrives, FindsMore, GoesOn, IsVisited, KeepsOf}
 use Rattle.cl_explore.specs.declared.companies.Company.{Company}
-use Rattle.cl_explore.specs.declared.exploring.Exploration.{Exploration}
 use Rattle.cl_explore.specs.declared.kept.KeptNode.{KeptNode}
 use Rattle.cl_explore.specs.declared.moving.Visit.{Visit}
 use Rattle.cl_explore.specs.declared.search.Search.{Search}
@@ -529,17 +528,6 @@ may_begin may_wait kept image order turns standing led first harts waits tells =
 pub if_some_on : {A : Type 0} {P Q : A → Type 0} (o : Option A) → ((a : A) → P a → Q a) → IfSome o P → IfSome o Q
 if_some_on None on is = tt
 if_some_on (Some a) on is = on a is
-
--- a search that was let visit only a part of the nodes is bounded as if it had been let visit all, if it visited each that it
--- found
-pub bounded_if : (states part most : ℕ) (may_wait : Bool) (found : Option Exploration) → (may_wait ≡ false → part ≡ states)
-    → (may_wait ≡ true → IfSome found (λ e. e.left ≡ 0))
-    → IfSome found (λ e. IsBounded part None most e.nodes.items e.left)
-    → IfSome found (λ e. IsBounded states None most e.nodes.items e.left)
-bounded_if states part most may_wait None same whole bounded = tt
-bounded_if states part most true (Some e) same whole bounded = inl (whole refl)
-bounded_if states part most false (Some e) same whole bounded =
-    subst (λ n. IsBounded n None most e.nodes.items e.left) (same refl) bounded
 
 -- ---- what led to a node
 

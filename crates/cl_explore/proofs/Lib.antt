@@ -14,3 +14,4 @@ pub mod Ordering
 pub mod Fronts
 pub mod Below
 pub mod Hears
+pub mod Needing

@@ -61,11 +61,11 @@ abbrev pub MayBegin : How → List ℕ → Node → Type 0
 MayBegin (by_contest contest) order start = StartsWell contest (by_order order) start.cluster
 MayBegin _ order start = Unit {0}
 
--- a search is halted for what ranks ask, or for ranks that need buffers, only where turns go first
+-- moves are halted for what ranks ask only where turns go first, and never for ranks that need buffers
 abbrev pub IsHaltOf : Way → Halt → Type 0
 IsHaltOf goes (halt.Fault fault) = Unit {0}
 IsHaltOf goes halt.Outside = goes ≡ ways.First
-IsHaltOf goes halt.Needed = goes ≡ ways.First
+IsHaltOf goes halt.Needed = ⊥
 
 -- standard sends may wait for their receives: only where turns go first that nobody contests, and no rank goes first that
 -- rests

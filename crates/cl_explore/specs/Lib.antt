@@ -8,6 +8,8 @@ pub mod Listening
 pub mod Orders
 pub mod Ends
 pub mod Visiting
+pub mod Needing
+pub mod Knowing
 pub mod Runs
 pub mod Likeness
 pub mod Sorting

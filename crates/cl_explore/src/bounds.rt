@@ -1,6 +1,6 @@
 //! Where a search comes to an end.
 
-ghost use Rattle.std.specs.Prelude.{◌≡◌, ◌⊎◌, ◌<◌, ◌≤◌, ◌-◌, None, IsFalse, IsTrue, false};
+ghost use Rattle.std.specs.Prelude.{◌≡◌, ◌⊎◌, ◌<◌, ◌≤◌, ◌-◌, None, IsFalse, IsTrue};
 ghost use Rattle.cl_explore.specs.Ends.{AreEnough, HasLonger, IsLonger};
 
 use crate::kept::KeptNode;
@@ -8,10 +8,6 @@ use crate::kept::KeptNode;
 /// Of how many nodes the moves are made at most of which one led to a new node by more turns of a rank's own than it was let
 /// take at once: a rank that counts would lead to new nodes without end.
 const DEEP_NODES: usize = 16;
-
-/// A search in which standard sends may wait for their receives may visit one of so many of the nodes that are allowed. If that
-/// isn't enough, the search begins again with sends that buffer, and most of the time is kept for that one.
-const WAITING_PART: usize = 8;
 
 /// Where a search comes to an end: once it has made the moves of so many nodes, or, where `enough` says so, so many are left;
 /// and which pass this is, from 1, since a search may begin again in another way.
@@ -34,16 +30,6 @@ impl Bounds {
             pass: self.pass.saturating_add(1),
         }
     }
-}
-
-/// How many nodes a search may visit of so many that are allowed.
-pub(crate) fn states_in(states: usize, may_wait: bool) -> usize
-    ensures { may_wait ≡ false → result ≡ states }
-{
-    if may_wait {
-        return (states / WAITING_PART).max(1);
-    }
-    states
 }
 
 /// Whether a search goes on that made the moves of so many of these nodes.

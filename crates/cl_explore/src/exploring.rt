@@ -6,17 +6,18 @@ ghost use Rattle.cl_order_laws.specs.Closed.{Node};
 ghost use Rattle.cl_moves.specs.Standing.{IsWay, by_order, first_node};
 ghost use Rattle.cl_moves.specs.declared.standing.Standing.{Standing as StandingView};
 ghost use Rattle.cl_explore.specs.Covering.{AreNodes, HasRoomAt};
-ghost use Rattle.cl_contests.specs.Kept.{search_of};
 ghost use Rattle.cl_contests.specs.declared.patterns.AskedBy.{AskedBy};
-ghost use Rattle.cl_explore.specs.How.{HasRoom, IsHaltOf, at_once, by_contest, how_in, how_of, plainly, waits_in};
+ghost use Rattle.cl_explore.specs.How.{HasRoom, IsHaltOf, at_once, how_in, how_of, plainly, waits_in};
 ghost use Rattle.cl_explore.specs.declared.course.Way.TheVariants as ways;
 ghost use Rattle.cl_explore.specs.Ends.{AreTurnsTo, BeginsAt, Explored, ExploredBehind, ExploredPlainly, ExploresFrom, IsBounded, Notes, StillExplores, findings};
 ghost use Rattle.cl_explore.specs.Listening.{CameByOrder, IsEndNode, IsImageFor, IsNeedNode, IsSearchOf};
 ghost use Rattle.cl_explore.specs.Visiting.{NotesVisit, findings_of};
+ghost use Rattle.cl_explore.specs.Needing.{AreSought, SaysNeeds};
+ghost use Rattle.cl_explore.specs.Knowing.{IsSearchHalt, NotesNeed};
 ghost use Rattle.cl_explore.specs.Orders.{OrderFaultHolds};
 ghost use Rattle.cl_lines.specs.Telling.{TellsProgress};
 
-use crate::bounds::{Bounds, goes_on, is_deep, states_in};
+use crate::bounds::{Bounds, goes_on, is_deep};
 use crate::companies::{Company, note_stuck};
 use crate::course::{Course, Manner, Way, may_wait};
 use crate::halt::Halt;
@@ -24,9 +25,9 @@ use crate::kept::KeptNode;
 use crate::leads::Lead;
 use crate::listening::{Deaf, Listener};
 use crate::moving::{Visit, settle};
+use crate::needs::{Needs, is_halted, is_wanted, known_before, needs_of, tell_first_needs};
 use crate::orders::{OrderFault, follow, turns_in};
 use crate::search::Search;
-use crate::seeking::seek_needs;
 use crate::stepping::steps_to;
 use cl_contests::{Patterns, add_waits, is_first_hart, may_start};
 use cl_lines::{Progress, put_progress};
@@ -66,6 +67,8 @@ pub struct Exploration {
     /// Of each node whose moves were made, by its number: the ranks that rest there, if standard sends might wait for their
     /// receives. Otherwise they weren't looked for.
     pub resting: Vec<RankSet>,
+    /// What is known of ranks that need buffers.
+    pub needs: Needs,
 }
 
 /// Where a search begins, in a cluster of this image, and where it comes to an end.
@@ -114,7 +117,7 @@ pub(crate) fn begin(
 }
 
 /// The moves of all nodes from a standing on, within bounds.
-#[tactic(auto, using(cl_lines::proofs::Behind::nothing_told))]
+#[tactic(auto, using(cl_lines::proofs::Behind::nothing_told, crate::proofs::Needing::halt_of))]
 fn search_nodes<L: Listener, E: Write>(
     course: &Manner<'_>,
     search: &mut Search,
@@ -135,9 +138,12 @@ fn search_nodes<L: Listener, E: Write>(
     ensures most { IfOk result (λ o. IfSome o (λ told.
         IsBounded bounds.states bounds.enough course.now.most search.new.nodes.items told.left)) }
     ensures plain { course.now.way ≡ ways.Plainly → IfOk result (λ o. is_some o ≡ true) }
-    ensures halt { IfErr result (IsHaltOf course.now.way) }
+    ensures halt { IfErr result (IsSearchHalt course.now.way (how_in course.now)
+        (L.told_need listener.new course.now.image.now course.now.order.now)) }
     ensures progress { TellsProgress course.now.progress (E.contents err.old) (E.contents err.new) }
     ensures holds { L.holds listener.new course.now.image.now course.now.order.now }
+    ensures still { L.told_need listener.old course.now.image.now course.now.order.now
+        → L.told_need listener.new course.now.image.now course.now.order.now }
 {
     let long = begin(course, search, standing)?;
     match visit_each(course, search, long, bounds, listener, err)? {
@@ -156,7 +162,9 @@ fn tell_end<L: Listener>(
 ) -> Result<(), AllocError>
     requires end { IsTrue end → IsEndNode course.now.image.now course.now.order.now nodes.now node }
     requires holds { L.holds listener.old course.now.image.now course.now.order.now }
-    ensures { L.holds listener.new course.now.image.now course.now.order.now }
+    ensures holds { L.holds listener.new course.now.image.now course.now.order.now }
+    ensures still { L.told_need listener.old course.now.image.now course.now.order.now
+        → L.told_need listener.new course.now.image.now course.now.order.now }
 {
     if end {
         listener.end(course.alloc, course.image, course.order, nodes, node)?;
@@ -176,10 +184,14 @@ fn tell_need<L: Listener>(
     requires need { IfSome visit.now.need (λ ranks.
         IsNeedNode course.now.image.now course.now.order.now nodes.now node ranks.items) }
     requires way { is_some visit.now.need ≡ true → course.now.way ≡ ways.First }
+    requires waits { is_some visit.now.need ≡ true → waits_in (how_in course.now) ≡ true }
     requires holds { L.holds listener.old course.now.image.now course.now.order.now }
     ensures none { IfOk result (λ _. is_some visit.now.need ≡ false) }
-    ensures halt { IfErr result (IsHaltOf course.now.way) }
+    ensures halt { IfErr result (IsSearchHalt course.now.way (how_in course.now)
+        (L.told_need listener.new course.now.image.now course.now.order.now)) }
     ensures holds { L.holds listener.new course.now.image.now course.now.order.now }
+    ensures still { L.told_need listener.old course.now.image.now course.now.order.now
+        → L.told_need listener.new course.now.image.now course.now.order.now }
 {
     match &visit.need {
         None => Ok(()),
@@ -208,6 +220,8 @@ fn follow_if_cut<L: Listener>(
     ensures most { IfOk result (λ after. IsBounded bounds.states bounds.enough course.now.most search.old.nodes.items told.left
         → IsBounded bounds.states bounds.enough course.now.most search.new.nodes.items after.left) }
     ensures holds { L.holds listener.new course.now.image.now course.now.order.now }
+    ensures still { L.told_need listener.old course.now.image.now course.now.order.now
+        → L.told_need listener.new course.now.image.now course.now.order.now }
 {
     if bounds.enough.is_some() || told.left == 0 || !told.noted.ends.is_empty() {
         return Ok(told);
@@ -298,7 +312,7 @@ fn tell_progress<E: Write>(
 /// The moves of one node after another are made, within bounds. None where calls for what is there are made at once, and a
 /// hub came to have too many posts for that. Where standard sends may wait for their receives, the search is halted at the first
 /// node at which ranks need buffers: one is enough to know that the program isn't safe without them.
-#[tactic(auto, using(cl_lines::proofs::Behind::nothing_told))]
+#[tactic(auto, using(cl_lines::proofs::Behind::nothing_told, crate::proofs::Needing::halt_of))]
 fn visit_each<L: Listener, E: Write>(
     course: &Manner<'_>,
     search: &mut Search,
@@ -317,11 +331,14 @@ fn visit_each<L: Listener, E: Write>(
     ensures most { IfOk result (λ o. IfSome o (λ told.
         IsBounded bounds.states bounds.enough course.now.most search.new.nodes.items told.left)) }
     ensures plain { course.now.way ≡ ways.Plainly → IfOk result (λ o. is_some o ≡ true) }
-    ensures halt { IfErr result (IsHaltOf course.now.way) }
+    ensures halt { IfErr result (IsSearchHalt course.now.way (how_in course.now)
+        (L.told_need listener.new course.now.image.now course.now.order.now)) }
     ensures of { IfOk result (λ o. IfSome o (λ told.
         IsSearchOf (how_in course.now) course.now.image.now course.now.order.now search.new)) }
     ensures progress { TellsProgress course.now.progress (E.contents err.old) (E.contents err.new) }
     ensures holds { L.holds listener.new course.now.image.now course.now.order.now }
+    ensures still { L.told_need listener.old course.now.image.now course.now.order.now
+        → L.told_need listener.new course.now.image.now course.now.order.now }
 {
     let mut noted = Noted {
         ends: Vec::new(course.alloc),
@@ -372,9 +389,12 @@ fn search_on<L: Listener, E: Write>(
         IsBounded bounds.states bounds.enough course.now.most found.nodes.items found.left)) }
     ensures waits { IfOk result (λ o. IfSome o (λ found. found.may_wait ≡ waits_in (how_in course.now))) }
     ensures plain { course.now.way ≡ ways.Plainly → IfOk result (λ o. is_some o ≡ true) }
-    ensures halt { IfErr result (IsHaltOf course.now.way) }
+    ensures halt { IfErr result (IsSearchHalt course.now.way (how_in course.now)
+        (L.told_need listener.new course.now.image.now course.now.order.now)) }
     ensures progress { TellsProgress course.now.progress (E.contents err.old) (E.contents err.new) }
     ensures holds { L.holds listener.new course.now.image.now course.now.order.now }
+    ensures still { L.told_need listener.old course.now.image.now course.now.order.now
+        → L.told_need listener.new course.now.image.now course.now.order.now }
 {
     if !has_room(course.way, &standing.whole) {
         return Ok(None);
@@ -398,18 +418,20 @@ fn search_on<L: Listener, E: Write>(
         leads: search.leads,
         may_wait: may_wait(course),
         resting: told.noted.resting,
+        needs: Needs::Unsought,
     }))
 }
 
 /// The same in this way, by these patterns of all ranks. None too where a rank asked beside the patterns, which is left in
 /// `missing`, where not all ranks may be let go at a cluster in which nobody goes first, or where ranks need buffers, of which
-/// the listener was told.
+/// the listener was told: then that is known.
 fn search<L: Listener, E: Write>(
     course: &Course<'_>,
     start: Start<'_>,
     way: Way,
     patterns: &Patterns,
     missing: &mut Patterns,
+    known: &mut Needs,
     listener: &mut L,
     err: &mut E,
 ) -> Result<Option<Exploration>, MoveFault>
@@ -427,6 +449,10 @@ fn search<L: Listener, E: Write>(
     ensures plain { way ≡ ways.Plainly → IfOk result (λ o. is_some o ≡ true) }
     ensures progress { TellsProgress course.now.progress (E.contents err.old) (E.contents err.new) }
     ensures holds { L.holds listener.new start.entry.image.now course.now.order.now }
+    ensures still { L.told_need listener.old start.entry.image.now course.now.order.now
+        → L.told_need listener.new start.entry.image.now course.now.order.now }
+    ensures known { NotesNeed ((waits_in (how_of way patterns.now.may_wait patterns.now.kept.items) ≡ true)
+        × L.told_need listener.new start.entry.image.now course.now.order.now) known.old known.new }
 {
     let Start {
         image,
@@ -446,7 +472,10 @@ fn search<L: Listener, E: Write>(
         Ok(found) => Ok(found),
         Err(Halt::Fault(fault)) => Err(fault),
         Err(Halt::Outside) => Ok(None),
-        Err(Halt::Needed) => Ok(None),
+        Err(Halt::Needed) => {
+            *known = Needs::Somebody;
+            Ok(None)
+        }
     }
 }
 
@@ -467,15 +496,19 @@ fn search_at_once<L: Listener, E: Write>(
     ensures waits { IfOk result (λ o. IfSome o (λ found. found.may_wait ≡ false)) }
     ensures progress { TellsProgress course.now.progress (E.contents err.old) (E.contents err.new) }
     ensures holds { L.holds listener.new start.entry.image.now course.now.order.now }
+    ensures still { L.told_need listener.old start.entry.image.now course.now.order.now
+        → L.told_need listener.new start.entry.image.now course.now.order.now }
 {
     let none = Patterns::new(course.alloc);
     let mut missing = Patterns::new(course.alloc);
+    let mut known = Needs::Unsought;
     search(
         course,
         start,
         Way::AtOnce,
         &none,
         &mut missing,
+        &mut known,
         listener,
         err,
     )
@@ -497,15 +530,19 @@ fn search_plainly<L: Listener, E: Write>(
     ensures waits { IfOk result (λ found. found.may_wait ≡ false) }
     ensures progress { TellsProgress course.now.progress (E.contents err.old) (E.contents err.new) }
     ensures holds { L.holds listener.new start.entry.image.now course.now.order.now }
+    ensures still { L.told_need listener.old start.entry.image.now course.now.order.now
+        → L.told_need listener.new start.entry.image.now course.now.order.now }
 {
     let none = Patterns::new(course.alloc);
     let mut missing = Patterns::new(course.alloc);
+    let mut known = Needs::Unsought;
     match search(
         course,
         start,
         Way::Plainly,
         &none,
         &mut missing,
+        &mut known,
         listener,
         err,
     )? {
@@ -514,67 +551,11 @@ fn search_plainly<L: Listener, E: Write>(
     }
 }
 
-/// Whether what a search found is what is wanted: it found something, and it wasn't cut where standard sends might wait for
-/// their receives.
-fn is_wanted(found: &Option<Exploration>, may_wait: bool) -> bool
-    ensures { IsTrue result → may_wait ≡ true → IfSome found.now (λ e. e.left ≡ 0) }
-{
-    match found {
-        None => false,
-        Some(exploration) => !may_wait || exploration.left == 0,
-    }
-}
-
-/// Whether a search with sends that may wait was halted although all patterns were known: where ranks need buffers, or where not
-/// all may be let go though nobody goes first.
-fn is_halted(found: &Option<Exploration>, missing: &Patterns, may_wait: bool) -> bool {
-    may_wait && found.is_none() && missing.is_empty()
-}
-
-/// If a search with sends that may wait was halted, the listener is told on each way of the first ranks that need buffers, by
-/// these patterns of all ranks. What ranks asked beside them is left in `missing`. Nothing else depends on it.
-///
-/// Refusals: NoTurn where the machine has no such turn there, Clock, Memory.
-fn tell_first_needs<L: Listener>(
-    course: &Course<'_>,
-    image: &Image,
-    turns: &[Turn],
-    patterns: &Patterns,
-    halted: bool,
-    states: usize,
-    missing: &mut Patterns,
-    listener: &mut L,
-) -> Result<(), OrderFault>
-    requires order { 0 < length course.now.order.now }
-    requires image { IsImageFor (by_contest (search_of patterns.now.may_wait patterns.now.kept.items)) image.now }
-    requires holds { L.holds listener.old image.now course.now.order.now }
-    ensures fault { IfErr result (OrderFaultHolds image.now course.now.order.now turns.now) }
-    ensures holds { L.holds listener.new image.now course.now.order.now }
-{
-    if !halted {
-        return Ok(());
-    }
-    let mut standing = follow(course, image, turns)?;
-    let manner = Manner {
-        alloc: course.alloc,
-        image,
-        order: course.order,
-        most: course.most,
-        progress: course.progress,
-        way: Way::First,
-        patterns,
-    };
-    match seek_needs(&manner, &mut standing, states, missing, listener) {
-        Err(Halt::Fault(fault)) => Err(fault.into()),
-        Ok(()) | Err(Halt::Outside) | Err(Halt::Needed) => Ok(()),
-    }
-}
-
 /// The same from where turns lead, by the patterns that all ranks turn out to have: while one asks beside those that are
 /// known, the search begins again with these. First standard sends may wait for their receives, unless the course says that they
 /// buffer: if such a search comes to its end, no ranks need buffers. Otherwise it begins again with sends that buffer. None where
 /// ranks have several harts, where some ask what has no pattern, or where not all may be let go though nobody goes first. `pass`
-/// is the next pass of the search.
+/// is the next pass of the search. In `known` it is noted if the listener was told of ranks that need buffers.
 ///
 /// Refusals: NoTurn where the machine has no such turn there, Clock, Memory.
 #[tactic(auto, using(cl_lines::proofs::Behind::nothing_told))]
@@ -584,6 +565,7 @@ fn search_by_patterns<L: Listener, E: Write>(
     turns: &[Turn],
     states: usize,
     pass: &mut u64,
+    known: &mut Needs,
     listener: &mut L,
     err: &mut E,
 ) -> Result<Option<Exploration>, OrderFault>
@@ -594,6 +576,10 @@ fn search_by_patterns<L: Listener, E: Write>(
     ensures most { IfOk result (λ o. IfSome o (λ found.
         IsBounded states None course.now.most found.nodes.items found.left)) }
     ensures buffers { IfOk result (λ o. IfSome o (λ found. course.now.buffered ≡ true → found.may_wait ≡ false)) }
+    ensures whole { IfOk result (λ o. IfSome o (λ found.
+        found.may_wait ≡ true → AreSought course.now.buffered image.now × (found.left ≡ 0))) }
+    ensures known { IfOk result (λ _. NotesNeed (AreSought course.now.buffered image.now
+        × L.told_need listener.new image.now course.now.order.now) known.old known.new) }
     ensures fault { IfErr result (OrderFaultHolds image.now course.now.order.now turns.now) }
     ensures progress { TellsProgress course.now.progress (E.contents err.old) (E.contents err.new) }
     ensures holds { L.holds listener.new image.now course.now.order.now }
@@ -610,7 +596,7 @@ fn search_by_patterns<L: Listener, E: Write>(
             return Ok(None);
         }
         let bounds = Bounds {
-            states: states_in(states, patterns.may_wait),
+            states,
             enough: None,
             pass: *pass,
         };
@@ -625,6 +611,7 @@ fn search_by_patterns<L: Listener, E: Write>(
             Way::First,
             &patterns,
             &mut missing,
+            known,
             listener,
             err,
         )?;
@@ -633,14 +620,13 @@ fn search_by_patterns<L: Listener, E: Write>(
         }
         *pass = pass.saturating_add(1);
         let halted = is_halted(&found, &missing, patterns.may_wait);
-        let most = states_in(states, true);
         tell_first_needs(
             course,
             image,
             turns,
             &patterns,
             halted,
-            most,
+            states,
             &mut missing,
             listener,
         )?;
@@ -662,8 +648,10 @@ fn search_by_patterns<L: Listener, E: Write>(
 /// stuck than in one of the nodes. Some are left only where the moves of as many as were allowed have been made, or where a
 /// rank took more turns by itself than it was let at once. Where that is wanted, lines on `err` say how far it came.
 ///
-/// Unless the course says that standard sends buffer, a first search lets them wait for their receives. If it comes to its end
-/// it is what is answered, and no run comes to a cluster in which ranks need buffers.
+/// Unless the course says that standard sends buffer, or ranks have several harts, a first search lets standard sends wait for
+/// their receives. If it comes to its end it is what is answered, and no run comes to a cluster in which ranks need buffers. If it
+/// comes to such ranks, the listener is told of them. If neither, nothing is known of them. In the last two cases what is
+/// answered is a search with sends that buffer.
 ///
 /// The listener is told of each end as soon as it is found, and on each way of the first node at which ranks need buffers, also of
 /// those that are found before the search begins again, whose nodes aren't in what is answered.
@@ -681,6 +669,8 @@ pub fn explore<L: Listener, E: Write>(
     ensures ends { IfOk result (λ found. Explored image.now course.now.order.now (findings found)) }
     ensures most { IfOk result (λ found. IsBounded states None course.now.most found.nodes.items found.left) }
     ensures buffers { IfOk result (λ found. course.now.buffered ≡ true → found.may_wait ≡ false) }
+    ensures needs { IfOk result (λ found. SaysNeeds course.now.buffered image.now (findings found)
+        (L.told_need listener.new image.now course.now.order.now) found.needs) }
     ensures progress { TellsProgress course.now.progress (E.contents err.old) (E.contents err.new) }
     ensures holds { L.holds listener.new image.now course.now.order.now }
 {
@@ -708,14 +698,18 @@ pub fn explore_from<L: Listener, E: Write>(
     ensures ends { IfOk result (λ found. ExploredBehind image.now course.now.order.now turns.now (findings found)) }
     ensures most { IfOk result (λ found. IsBounded states None course.now.most found.nodes.items found.left) }
     ensures buffers { IfOk result (λ found. course.now.buffered ≡ true → found.may_wait ≡ false) }
+    ensures needs { IfOk result (λ found. SaysNeeds course.now.buffered image.now (findings found)
+        (L.told_need listener.new image.now course.now.order.now) found.needs) }
     ensures fault { IfErr result (OrderFaultHolds image.now course.now.order.now turns.now) }
     ensures progress { TellsProgress course.now.progress (E.contents err.old) (E.contents err.new) }
     ensures holds { L.holds listener.new image.now course.now.order.now }
 {
+    let mut known = known_before(course, image);
     let mut pass = 1;
-    if let Some(found) = search_by_patterns(
-        course, image, turns, states, &mut pass, listener, err,
+    if let Some(mut found) = search_by_patterns(
+        course, image, turns, states, &mut pass, &mut known, listener, err,
     )? {
+        found.needs = needs_of(found.may_wait, known);
         return Ok(found);
     }
     let bounds = Bounds {
@@ -729,7 +723,8 @@ pub fn explore_from<L: Listener, E: Write>(
         standing,
         bounds,
     };
-    if let Some(found) = search_at_once(course, start, listener, err)? {
+    if let Some(mut found) = search_at_once(course, start, listener, err)? {
+        found.needs = known;
         return Ok(found);
     }
     let again = follow(course, image, turns)?;
@@ -738,7 +733,8 @@ pub fn explore_from<L: Listener, E: Write>(
         standing: again,
         bounds: bounds.next(),
     };
-    let found = search_plainly(course, start, listener, err)?;
+    let mut found = search_plainly(course, start, listener, err)?;
+    found.needs = known;
     Ok(found)
 }
 

@@ -28,6 +28,8 @@ fn seek_at<L: Listener>(
     ensures of { OnOk result (IsSearchOf (how_in course.now) course.now.image.now course.now.order.now search.new) }
     ensures halt { IfErr result (IsHaltOf course.now.way) }
     ensures holds { L.holds listener.new course.now.image.now course.now.order.now }
+    ensures still { L.told_need listener.old course.now.image.now course.now.order.now
+        → L.told_need listener.new course.now.image.now course.now.order.now }
 {
     let live = search.nodes[node].live(course.alloc)?;
     match needing_in(course, &live)? {
@@ -60,6 +62,8 @@ fn seek_each<L: Listener>(
     requires holds { L.holds listener.old course.now.image.now course.now.order.now }
     ensures halt { IfErr result (IsHaltOf course.now.way) }
     ensures holds { L.holds listener.new course.now.image.now course.now.order.now }
+    ensures still { L.told_need listener.old course.now.image.now course.now.order.now
+        → L.told_need listener.new course.now.image.now course.now.order.now }
 {
     begin(course, search, standing)?;
     let mut done = 0;
@@ -86,6 +90,8 @@ pub(crate) fn seek_needs<L: Listener>(
     requires holds { L.holds listener.old course.now.image.now course.now.order.now }
     ensures halt { IfErr result (IsHaltOf course.now.way) }
     ensures holds { L.holds listener.new course.now.image.now course.now.order.now }
+    ensures still { L.told_need listener.old course.now.image.now course.now.order.now
+        → L.told_need listener.new course.now.image.now course.now.order.now }
 {
     let mut search = Search::new(course.alloc)?;
     let sought = seek_each(course, &mut search, standing, states, listener);

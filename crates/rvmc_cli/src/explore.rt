@@ -59,8 +59,10 @@ alone`. There is no budget.
 `no other outcome with buffered sends` in place of `no other outcome` means that
 no run here has another outcome, but other ranks may need buffers. It is printed
 with --buffered, --from and --join, where ranks that need buffers are listed, where
-looking for them took too long, and where nobody can look for them: where ranks
-have several harts, or one waits for a partition that it hasn't made ready itself.
+ranks have several harts, and where it is unknown whether ranks need buffers: where
+looking for them took more than --states states, or where nobody can look for them,
+as one waits for a partition that it hasn't made ready itself. A line above the
+last one says that it is unknown, and the status is 4.
 
 A search may take long. --progress prints a line on standard error after 100,
 200, .. 900, 1000, 2000, .. states: how many of them are ends, and how many more
@@ -97,7 +99,7 @@ Status:
     outcome
   2 error in the command line
   3 a hart trapped at some end
-  4 the list is not complete
+  4 the list is not complete, or it is unknown whether ranks need buffers
   5 out of memory
   6 a read or write failed, or the input is too long
   7 the list is complete, and some end is a deadlock, some ranks are stuck

@@ -43,10 +43,7 @@ use Rattle.cl_explore.proofs.Covers.{lead_of}
 use Rattle.cl_explore.proofs.Keeping.{node_found}
 use Rattle.cl_explore.proofs.Lists.{at_inside}
 use Rattle.rvmc_explore.specs.Endless.{AllMayEnd, AreComplete, NeverNeeds, NeverStuck, SaysEndsAnyway, SaysNoneNeed, SaysNoneStuck, SaysUnending, SaysUnendingOf, SomeNeverEnds}
-use Rattle.rvmc_explore.specs.Outcomes.{any_need}
 use Rattle.rvmc_explore.specs.Searched.{AreSound, GoesIn}
-use Rattle.rvmc_explore.specs.StatusLaw.{StatusLaw}
-use Rattle.rvmc_explore.specs.Telling.{Tells, any_end, is_some_company, has_stuck, trapped_in, waits_in}
 
 -- ---- moves as edges
 
@@ -477,70 +474,3 @@ says_unending found marks true all many sound complete some each = λ image orde
 says_unending found marks false all many sound complete some each = λ image order start reached explored none harts.
     all_may_end image order start found explored all marks many complete sound (each refl)
     (have_harts image order start.cluster reached harts)
-
--- ---- the status
-
-neither : (status other : ℕ) → status ≡ other → (other ≡ 0 → ⊥) → (other ≡ 8 → ⊥) → (status ≡ 0) ⊎ (status ≡ 8) → ⊥
-neither status other is no_zero no_eight which = elim which [
-  | inl none ↦ no_zero (sym is ∙ none)
-  | inr eight ↦ no_eight (sym is ∙ eight)
-]
-
--- none left, nobody stuck, and whether some runs go on for ever
-abbrev MeansQuiet : Bool → Bool → Bool → ℕ → Type 0
-MeansQuiet all stuck unending status =
-    (all ≡ true) × (stuck ≡ false) × (status ≡ 0 → unending ≡ false) × (status ≡ 8 → unending ≡ true)
-
-by_cases : (all trapped stuck unending : Bool) (status : ℕ)
-    → status ≡ (if all then (if trapped then 3 else (if stuck then 7 else (if unending then 8 else 0))) else 4)
-    → (status ≡ 0) ⊎ (status ≡ 8) → MeansQuiet all stuck unending status
-by_cases false trapped stuck unending status is which =
-    absurd (neither status 4 is (λ e. omega (arith, e)) (λ e. omega (arith, e)) which)
-by_cases true true stuck unending status is which =
-    absurd (neither status 3 is (λ e. omega (arith, e)) (λ e. omega (arith, e)) which)
-by_cases true false true unending status is which =
-    absurd (neither status 7 is (λ e. omega (arith, e)) (λ e. omega (arith, e)) which)
-by_cases true false false true status is which = (refl, refl, λ none. absurd (omega (arith, is, none)), λ eight. refl)
-by_cases true false false false status is which = (refl, refl, λ none. refl, λ eight. absurd (omega (arith, is, eight)))
-
-neither_of : (a b : Bool) → (a || b) ≡ false → a ≡ false
-neither_of true b none = absurd (cc)
-neither_of false b none = refl
-
-no_company : (found : Findings) (ends need : Bool) → ((ends || is_some_company found.companies) || need) ≡ false
-    → length found.companies ≡ 0
-no_company found true need none = absurd (cc)
-no_company found false need none = of (length found.companies == 0) refl (neither_of (is_some_company found.companies) need none)
-  where
-    of : (b : Bool) → (length found.companies == 0) ≡ b → not b ≡ false → length found.companies ≡ 0
-    of true is none = eqb-true (length found.companies) 0 is
-    of false is none = absurd (cc)
-
-status_at : (image : ImageParts) (order : List ℕ) (buffered : Bool) (states turns : ℕ) (text : List ℕ) (status : ℕ)
-    → (tells : Tells image order buffered states turns text status) → (status ≡ 0) ⊎ (status ≡ 8)
-    → NeverStuck image order (first_node image) × (((tells.listed).found).left ≡ 0)
-    × (status ≡ 0 → tells.unending ≡ false) × (status ≡ 8 → tells.unending ≡ true)
-status_at image order buffered states turns text status tells which =
-    let found = (tells.listed).found in
-    let is = by_cases (found.left == 0) (any_end trapped_in found.kept found.ends)
-    (has_stuck order found || any_need tells.told) tells.unending status tells.status_is which in
-    let none_left : found.left ≡ 0 = eqb-true found.left 0 is.0 in
-    let none = no_company found (any_end (waits_in order) found.kept found.ends) (any_need tells.told) is.1 in
-    (tells.none_stuck none_left none, none_left, is.2, is.3)
-
-pub status_law : StatusLaw
-status_law = record {
-  zero = λ image order buffered states turns text harts tells.
-      let is = status_at image order buffered states turns text 0 tells (inl refl) in
-      let quiet : SaysUnending image order (first_node image) ((tells.listed).found).left false =
-      subst (SaysUnending image order (first_node image) ((tells.listed).found).left) (is.2 refl) tells.unending_is in
-      record { ends = quiet is.1 harts; never_stuck = is.0; never_need = tells.none_need is.1 };
-  eight = λ image order buffered states turns text tells.
-      let is = status_at image order buffered states turns text 8 tells (inr refl) in
-      record {
-        endless = subst (SaysUnending image order (first_node image) ((tells.listed).found).left) (is.3 refl)
-            tells.unending_is;
-        never_stuck = is.0;
-        never_need = tells.none_need is.1;
-      };
-}

@@ -12,7 +12,7 @@ use Rattle.cl_explore.specs.declared.kept.KeptNode.{KeptNode}
 use Rattle.cl_replay.specs.States.{ClusterStandsFor}
 use Rattle.rvmc_report.specs.Report.{newline}
 use Rattle.rvmc_explore.specs.InnerOutcomes.{AreHeard, BeginsWith, IsHeard, IsNew, IsOutcomeOf, bodies_told}
-use Rattle.rvmc_explore.specs.Outcomes.{HasBody, IsEndBody, IsNeedBody, any_need}
+use Rattle.rvmc_explore.specs.Outcomes.{HasBody, IsEndBody, IsNeedBody, IsNeedOutcome, any_need}
 use Rattle.rvmc_explore.specs.Telling.{AddsOutcome, AddsOutcomes, IsBegun, Tells, outcome_number}
 use Rattle.rvmc_explore.specs.InnerTelling.{WereTold}
 use Rattle.rvmc_explore.specs.declared.outcomes.Outcome.{Outcome}
@@ -48,25 +48,29 @@ need_inside image order kept node ranks (nodes, are, there) =
 pub new_need : (image : ImageParts) (order : List ℕ) (kept : List KeptNode) (node : ℕ) (ranks body : List ℕ)
     (told : List Outcome) (outcome : Outcome) → IsNeedNode image order kept node ranks
     → IsNeedBody image kept node ranks body → IsOutcomeOf kept node body 0 true outcome → (HasBody told body → ⊥)
-    → IsNew order image told outcome
+    → IsNew order image told outcome × IsNeedOutcome order image outcome
 new_need image order kept node ranks body told outcome (nodes, are, there) is of unlike =
     let it = is.is in
     let v = are.each node it.what it.there in
     let same : v.0 ≡ there.0 = same_Some v.0 there.0 (sym v.1 ∙ there.1) in
+    let one : IsNeedOutcome order image outcome =
     record {
-      is = inr (record {
-        node = there.0;
-        led = of.leads image order nodes there.0 are there.1;
-        ranks = ranks;
-        need = there.2;
-        state = is.state;
-        stands = subst (λ (n : Node). ClusterStandsFor image is.state n.cluster) same ((v.2).stands is.state it.same);
-        told = of.body_is ∙ is.spelled;
-        of_need = of.need_is;
-      });
-      uncounted = of.ends_are;
-      new = λ has. unlike (subst (HasBody told) of.body_is has);
-    }
+      node = there.0;
+      led = of.leads image order nodes there.0 are there.1;
+      ranks = ranks;
+      need = there.2;
+      state = is.state;
+      stands = subst (λ (n : Node). ClusterStandsFor image is.state n.cluster) same ((v.2).stands is.state it.same);
+      told = of.body_is ∙ is.spelled;
+      of_need = of.need_is;
+    } in (
+      record {
+        is = inr one;
+        uncounted = of.ends_are;
+        new = λ has. unlike (subst (HasBody told) of.body_is has);
+      },
+      one,
+    )
 
 -- ---- lists of them
 
@@ -151,11 +155,11 @@ behind number (outcome ∷ told) before old new (mid, one, rest) = (
   behind (number + 1) told before mid new rest,
 )
 
-abbrev tail_of : {A : Type 0} → List A → List A
+abbrev pub tail_of : {A : Type 0} → List A → List A
 tail_of [] = []
 tail_of (x ∷ xs) = xs
 
-abbrev first_or : {A : Type 0} → A → List A → A
+abbrev pub first_or : {A : Type 0} → A → List A → A
 first_or d [] = d
 first_or d (x ∷ xs) = x
 

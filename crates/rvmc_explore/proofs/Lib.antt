@@ -9,3 +9,5 @@ pub mod EachStart
 pub mod Apart
 pub mod Heard
 pub mod Places
+pub mod Needed
+pub mod Statuses

@@ -30,7 +30,7 @@ use Rattle.rvmc_explore.specs.Outcomes.{IsListOf, IsOutcome, any_need}
 use Rattle.rvmc_explore.specs.Recorded.{Leads, LeadsTo, numbered}
 use Rattle.rvmc_explore.proofs.Listed.{end_told}
 use Rattle.rvmc_explore.proofs.ToEnds.{numbered_at, told_way}
-use Rattle.rvmc_explore.specs.Telling.{Tells, any_end, has_stuck, holds_of, is_some_company, search_status, trapped_in, waits_in}
+use Rattle.rvmc_explore.specs.Telling.{Tells, any_end, has_stuck, holds_of, is_all, is_some_company, is_somebody, search_status, trapped_in, waits_in}
 use Rattle.rvmc_explore.specs.declared.outcomes.Outcome.{Outcome}
 use Rattle.rvmc_explore.proofs.EndTexts.{found_way, lines_alike, lines_of_states, ranks_kept, traps_alike, waits_alike, waits_of_states}
 
@@ -220,10 +220,10 @@ module _ (image : ImageParts) (order : List ℕ) (buffered copied : Bool) (state
           let ends : MayEnd (by_order order) never.there = subst (MayEnd (by_order order)) same goes in
           absurd (never.never ends.0 ends.1 ends.2)
 
-status_same : (left other status its : ℕ) (a b c x y z : Bool) → left ≡ 0 → other ≡ 0
-    → status ≡ search_status left a b c → its ≡ search_status other x y z → a ≡ x → b ≡ y → c ≡ z → status ≡ its
-status_same left other status its a b c x y z whole all is are first second third =
-    is ∙ (λ i. search_status ((whole ∙ sym all) i) (first i) (second i) (third i)) ∙ sym are
+status_same : (status its : ℕ) (w a b c v x y z : Bool) → w ≡ v → status ≡ search_status w a b c
+    → its ≡ search_status v x y z → a ≡ x → b ≡ y → c ≡ z → status ≡ its
+status_same status its w a b c v x y z all is are first second third =
+    is ∙ (λ i. search_status (all i) (first i) (second i) (third i)) ∙ sym are
 
 leads_there : (image : ImageParts) (order : List ℕ) (steps : List Step) (o : Option Outcome)
     → Leads image order o (Some steps) → (outcome : Outcome) × (o ≡ Some outcome) × LeadsTo image order outcome steps
@@ -289,11 +289,13 @@ one_list_law = record {
       (unending_there image order copied buffered more longer states turns other text its status right harts two all one
       whole) in (
         unending,
-        λ needs. status_same ((one.listed).found).left ((two.listed).found).left status its
+        λ needs. status_same status its (is_all ((one.listed).found).left (one.listed).needs)
             (any_end trapped_in ((one.listed).found).kept ((one.listed).found).ends)
-            (has_stuck order (one.listed).found || any_need one.told) one.unending
+            (has_stuck order (one.listed).found || is_somebody (one.listed).needs) one.unending
+            (is_all ((two.listed).found).left (two.listed).needs)
             (any_end trapped_in ((two.listed).found).kept ((two.listed).found).ends)
-            (has_stuck order (two.listed).found || any_need two.told) two.unending whole all one.status_is two.status_is
+            (has_stuck order (two.listed).found || is_somebody (two.listed).needs) two.unending
+            (λ i. is_all ((whole ∙ sym all) i) (needs i)) one.status_is two.status_is
             (bools _ _
             (traps_there image order buffered copied states turns more longer text other status its right harts one whole two all)
             (traps_there image order copied buffered more longer states turns other text its status right harts two all one
@@ -302,7 +304,7 @@ one_list_law = record {
             (stuck_there image order buffered copied states turns more longer text other status its right harts one whole two all)
             (stuck_there image order copied buffered more longer states turns other text its status right harts two all one
             whole) i
-            || needs i)
+            || is_somebody (needs i))
             unending,
       );
 }

@@ -1,10 +1,10 @@
 -- Outcomes on the way: those that were heard of while a search went on, and lists to which more are added.
-use Rattle.std.specs.Prelude.{ℕ, ◌+◌, ◌^◌, ◌<◌, ◌≡◌, ◌⊎◌, List, [], ◌∷◌, ◌++◌, Bool, false, true, map, slice_get, slice_set, Some}
+use Rattle.std.specs.Prelude.{ℕ, ◌+◌, ◌^◌, ◌<◌, ◌≡◌, ◌⊎◌, List, [], ◌∷◌, ◌++◌, Bool, false, true, map, slice_get, slice_set, Option, None, Some}
 use Rattle.rv_image_types.specs.declared.images.ImageParts.{ImageParts}
 use Rattle.cl_explore.specs.Ends.{Findings}
 use Rattle.cl_explore.specs.declared.companies.Company.{Company}
 use Rattle.cl_explore.specs.declared.kept.KeptNode.{KeptNode}
-use Rattle.rvmc_explore.specs.Outcomes.{AreApart, AreCounted, HasBody, IsEndOutcome, IsNeedOutcome, IsStuckBody, LeadThere}
+use Rattle.rvmc_explore.specs.Outcomes.{AreApart, AreCounted, HasBody, IsEndOutcome, IsNeedOutcome, IsStuckBody, LeadThere, ListsNeed}
 use Rattle.rvmc_explore.specs.declared.outcomes.Outcome.{Outcome}
 
 -- one of an end, or of ranks that need buffers
@@ -23,6 +23,11 @@ pub record IsNew (order : List ℕ) (image : ImageParts) (told : List Outcome) (
   pub is : IsHeard order image outcome
   pub uncounted : outcome.ends ≡ 0
   pub new : HasBody told outcome.body.items → ⊥
+
+-- of ranks that need buffers: one more that is of such ranks, or their text is told
+abbrev pub IsNeedAmong : List ℕ → ImageParts → List Outcome → Option Outcome → Type 0
+IsNeedAmong order image told None = ListsNeed image order told
+IsNeedAmong order image told (Some outcome) = IsNew order image told outcome × IsNeedOutcome order image outcome
 
 -- their texts, in order
 abbrev pub bodies_told : List Outcome → List (List ℕ)

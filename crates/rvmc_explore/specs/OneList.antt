@@ -103,10 +103,10 @@ pub record OneListLaw : Type 0 where
       → (((one.listed).found).left ≡ 0)
       → (((one.listed).found).may_wait ≡ true) → IsListOf image order copied more longer other
       → any_need other ≡ false
-  -- both say that some runs go on for ever, or neither; and both have the same status if both tell of ranks that need buffers,
-  -- or neither does
+  -- both say that some runs go on for ever, or neither; and both have the same status if both know the same of ranks that need
+  -- buffers
   pub statuses : (image : ImageParts) (order : List ℕ) (buffered copied : Bool) (states turns more longer : ℕ)
       (text other : List ℕ) (status its : ℕ) → IsImage image → IsOrder image.harts order
       → (one : Tells image order buffered states turns text status) → (((one.listed).found).left ≡ 0)
       → (two : Tells image order copied more longer other its) → (((two.listed).found).left ≡ 0)
-      → (one.unending ≡ two.unending) × (any_need one.told ≡ any_need two.told → status ≡ its)
+      → (one.unending ≡ two.unending) × ((one.listed).needs ≡ (two.listed).needs → status ≡ its)

@@ -7,8 +7,10 @@ use Rattle.cl_order_laws.specs.Closed.{IsEnd, Node}
 use Rattle.cl_moves.specs.Standing.{IsWay, by_order, first_node}
 use Rattle.cl_explore.specs.Covering.{AreNodes}
 use Rattle.cl_explore.specs.Ends.{Findings}
+use Rattle.cl_explore.specs.Needing.{SaysNeeds}
 use Rattle.cl_explore.specs.declared.companies.Company.{Company}
 use Rattle.cl_explore.specs.declared.kept.KeptNode.{KeptNode}
+use Rattle.cl_explore.specs.declared.needs.Needs.{Needs}
 use Rattle.cl_machine.specs.Cluster.{Cluster}
 use Rattle.cl_machine.specs.declared.steps.Step.{Step}
 use Rattle.cl_replay.specs.States.{ClusterStandsFor}
@@ -99,6 +101,17 @@ AreApart told =
     (i j : ℕ) (one other : Outcome) → slice_get told i ≡ Some one → slice_get told j ≡ Some other
     → one.body.items ≡ other.body.items → i ≡ j
 
+-- the text of the most ranks that are held up together, and need buffers, where a run by the order leads, is told
+pub record ListsNeed (image : ImageParts) (order : List ℕ) (told : List Outcome) : Type 0 where
+  pub steps : List Step
+  pub node : Node
+  pub way : IsWay (by_order order) (first_node image) steps node
+  pub ranks : List ℕ
+  pub need : IsNeed ranks node.cluster
+  pub state : ClusterState
+  pub stands : ClusterStandsFor image state node.cluster
+  pub listed : HasBody told (need_text image state ranks)
+
 -- one of them is of ranks that need buffers
 abbrev pub any_need : List Outcome → Bool
 any_need told = list_any (λ outcome. outcome.need) told
@@ -133,10 +146,13 @@ pub record AreTold (order : List ℕ) (image : ImageParts) (found : Findings) (t
       → GoesTo found.leads found.ends company.node ⊎ TellsStuck image found.kept told company
 
 -- the list of what is told of the image and the order, of a search within these bounds. If every send is buffered, it names
--- no ranks that need buffers
+-- no ranks that need buffers. Otherwise, if ranks have one hart each, such ranks are looked for: either no run comes to any, or the
+-- list names some, or it isn't known
 pub record IsListOf (image : ImageParts) (order : List ℕ) (buffered : Bool) (states turns : ℕ) (told : List Outcome)
     : Type 0 where
   pub found : Findings
   pub searched : IsSearched image order buffered states turns found
   pub are : AreTold order image found told
   pub no_need : buffered ≡ true → any_need told ≡ false
+  pub needs : Needs
+  pub needs_are : SaysNeeds buffered image found (ListsNeed image order told) needs

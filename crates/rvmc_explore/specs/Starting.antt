@@ -10,6 +10,7 @@ use Rattle.rvmc_starts.specs.Sums.{sum_of}
 use Rattle.rvmc_starts.specs.declared.parts.EndText.{EndText}
 use Rattle.rvmc_starts.specs.declared.parts.Part.{Part}
 use Rattle.rvmc_starts.specs.declared.starts.Start.{Start}
+use Rattle.cl_explore.specs.declared.needs.Needs.TheVariants as needs
 use Rattle.rvmc_explore.specs.Endless.{SaysNoneStuck, SaysUnending}
 use Rattle.rvmc_explore.specs.Outcomes.{AreTold, any_need}
 use Rattle.rvmc_explore.specs.Recorded.{Leads, numbered}
@@ -66,7 +67,7 @@ pub record TellsFrom (image : ImageParts) (start : Start) (states turns : ℕ) (
   pub ends : AreEndsTold told part.ends
   pub unending_is : SaysUnending image start.harts (listed.behind).start (listed.found).left part.unending
   pub none_stuck : SaysNoneStuck image start.harts (listed.behind).start (listed.found).left (listed.found).companies
-  pub status_is : status ≡ findings_status start.harts listed.found told part.unending
+  pub status_is : status ≡ findings_status start.harts listed.found needs.Unsought part.unending
   pub status_told : part.status ≡ status
   pub spelled : text ≡ part_text part
 

@@ -1,5 +1,5 @@
 -- What `explore` prints.
-use Rattle.std.specs.Prelude.{ℕ, ◌+◌, ◌≡◌, ◌++◌, ◌==◌, ◌||◌, List, [], ◌∷◌, Bool, false, nat_lt, true, not, Option, Some, None, codes, if◌then◌else◌, length, slice_get}
+use Rattle.std.specs.Prelude.{ℕ, ◌+◌, ◌≡◌, ◌++◌, ◌==◌, ◌&&◌, ◌||◌, List, [], ◌∷◌, Bool, false, nat_lt, true, not, Option, Some, None, codes, if◌then◌else◌, length, slice_get}
 use Rattle.std.specs.Fmt.{decimal}
 use Rattle.std.specs.List.{enumerate_from, flat_map, list_any}
 use Rattle.rv_image_types.specs.declared.images.ImageParts.{ImageParts}
@@ -9,10 +9,12 @@ use Rattle.cl_moves.specs.Standing.{IsWay, by_order, first_node}
 use Rattle.cl_explore.specs.Ends.{Findings}
 use Rattle.cl_explore.specs.declared.companies.Company.{Company}
 use Rattle.cl_explore.specs.declared.kept.KeptNode.{KeptNode}
+use Rattle.cl_explore.specs.declared.needs.Needs.{Needs}
+use Rattle.cl_explore.specs.declared.needs.Needs.TheVariants as known
 use Rattle.rvmc_report.specs.Report.{has_trapped, newline}
 use Rattle.rvmc_explore.specs.Endless.{SaysEndsAnyway, SaysNoneNeed, SaysNoneStuck, SaysUnending}
 use Rattle.rvmc_explore.specs.Ends.{one_waits}
-use Rattle.rvmc_explore.specs.Outcomes.{AreApart, IsListOf, IsTextAt, any_need}
+use Rattle.rvmc_explore.specs.Outcomes.{AreApart, IsListOf, IsTextAt}
 use Rattle.rvmc_explore.specs.declared.outcomes.Outcome.{Outcome}
 
 -- ---- one outcome
@@ -62,6 +64,16 @@ abbrev pub count_text : ℕ → List ℕ → List ℕ
 count_text count word =
     if (count == 1) then codes "1 " ++ word else (decimal count ++ (codes " " ++ (word ++ codes "s")))
 
+-- it isn't known whether ranks need buffers
+abbrev pub is_unknown : Needs → Bool
+is_unknown known.Unknown = true
+is_unknown _ = false
+
+-- some do
+abbrev pub is_somebody : Needs → Bool
+is_somebody known.Somebody = true
+is_somebody _ = false
+
 -- why states are left whose moves weren't made: a rank that took more turns by itself than it was let, or as many states
 -- as were allowed
 abbrev pub want : ℕ → Option ℕ → ℕ → List ℕ
@@ -81,6 +93,13 @@ verdict left may_wait long turns = if (left == 0) then none_other may_wait else 
 -- where some state leads to no end
 abbrev pub unending_line : Bool → List ℕ
 unending_line unending = if unending then codes "some runs go on for ever" ++ newline else []
+
+-- where ranks that need buffers were looked for, and it isn't known whether there are any
+abbrev pub needs_line : Needs → List ℕ
+needs_line needs =
+    if is_unknown needs
+    then codes "not all: whether ranks need buffers is unknown; raise --states, or use --buffered" ++ newline
+    else []
 
 -- `2 outcomes of 20 states`
 abbrev pub counts_text : ℕ → ℕ → List ℕ
@@ -110,11 +129,15 @@ holds_of p (Some node) = p node
 abbrev pub any_end : (KeptNode → Bool) → List KeptNode → List ℕ → Bool
 any_end p kept ends = list_any (λ node. holds_of p (slice_get kept node)) ends
 
+-- all is told: no state is left, and where ranks that need buffers were looked for it is known whether there are any
+abbrev pub is_all : ℕ → Needs → Bool
+is_all left needs = (left == 0) && not (is_unknown needs)
+
 -- 4 where not all is told, else 3 where a hart trapped at an end, else 7 where one waits for ever or ranks need buffers, else
 -- 8 where some runs go on for ever, else 0
-abbrev pub search_status : ℕ → Bool → Bool → Bool → ℕ
-search_status left trapped stuck unending =
-    if (left == 0) then (if trapped then 3 else (if stuck then 7 else (if unending then 8 else 0))) else 4
+abbrev pub search_status : Bool → Bool → Bool → Bool → ℕ
+search_status all trapped stuck unending =
+    if all then (if trapped then 3 else (if stuck then 7 else (if unending then 8 else 0))) else 4
 
 abbrev pub is_some_company : List Company → Bool
 is_some_company companies = not (length companies == 0)
@@ -123,9 +146,10 @@ is_some_company companies = not (length companies == 0)
 abbrev pub has_stuck : List ℕ → Findings → Bool
 has_stuck order found = any_end (waits_in order) found.kept found.ends || is_some_company found.companies
 
-abbrev pub findings_status : List ℕ → Findings → List Outcome → Bool → ℕ
-findings_status order found told unending =
-    search_status found.left (any_end trapped_in found.kept found.ends) (has_stuck order found || any_need told) unending
+abbrev pub findings_status : List ℕ → Findings → Needs → Bool → ℕ
+findings_status order found needs unending =
+    search_status (is_all found.left needs) (any_end trapped_in found.kept found.ends)
+    (has_stuck order found || is_somebody needs) unending
 
 -- ---- the whole
 
@@ -149,5 +173,6 @@ pub record Tells (image : ImageParts) (order : List ℕ) (buffered : Bool) (stat
       ≡ body
       ++ (ends_lines 1 told
       ++ (unending_line unending
-      ++ last_line (length told) (length (listed.found).kept) (listed.found).left (listed.found).may_wait long turns))
-  pub status_is : status ≡ findings_status order listed.found told unending
+      ++ (needs_line listed.needs
+      ++ last_line (length told) (length (listed.found).kept) (listed.found).left (listed.found).may_wait long turns)))
+  pub status_is : status ≡ findings_status order listed.found listed.needs unending

@@ -1,9 +1,10 @@
-//! The last line: whether the outcomes are all.
+//! The last lines: whether the outcomes are all.
 
 ghost use Rattle.std.specs.Prelude.{◌≡◌, IfOk, length, string_bytes};
-ghost use Rattle.rvmc_explore.specs.Telling.{count_text, counts_text, last_line, none_other, verdict, want};
+ghost use Rattle.rvmc_explore.specs.Telling.{count_text, counts_text, last_line, needs_line, none_other, verdict, want};
 
-use cl_explore::Exploration;
+use crate::judging::is_unknown;
+use cl_explore::{Exploration, Needs};
 use std::alloc::{AllocError, Global};
 
 /// How many there are of what a word names.
@@ -52,6 +53,19 @@ fn verdict(
         none_other(alloc, may_wait)
     } else {
         want(alloc, left, long, turns)
+    }
+}
+
+/// The line that says that it isn't known whether ranks need buffers, where they were looked for.
+pub(crate) fn needs_line(alloc: Global, needs: Needs) -> Result<String, AllocError>
+    ensures { IfOk result (λ text. string_bytes text ≡ needs_line needs) }
+{
+    if is_unknown(needs) {
+        format!(in alloc;
+            "not all: whether ranks need buffers is unknown; raise --states, or use --buffered\n"
+        )
+    } else {
+        Ok(String::new(alloc))
     }
 }
 

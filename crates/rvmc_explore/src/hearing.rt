@@ -3,7 +3,7 @@
 ghost use Rattle.std.specs.Prelude.{◌≡◌, [], Bool, false, true};
 ghost use Rattle.cl_explore.specs.Listening.{IsEndNode, IsNeedNode};
 ghost use Rattle.rvmc_explore.specs.InnerOutcomes.{AreHeard};
-ghost use Rattle.rvmc_explore.specs.Outcomes.{any_need};
+ghost use Rattle.rvmc_explore.specs.Outcomes.{ListsNeed, any_need};
 
 use crate::outcomes::{Outcome, new_end, new_need};
 use cl_explore::{KeptNode, Listener};
@@ -55,6 +55,8 @@ impl<K> Hearer<K> {
 impl<K: Sends> Listener for Hearer<K> {
     ghost holds = { λ hearer image order. (hearer.buffered ≡ K.buffered) × AreHeard order image hearer.told.items
         × (K.buffered ≡ true → any_need hearer.told.items ≡ false) };
+
+    ghost told_need = { λ hearer image order. K.buffered ≡ false → ListsNeed image order hearer.told.items };
 
     fn end(
         &mut self,

@@ -5,12 +5,10 @@ ghost use Rattle.std.specs.List.{list_any};
 ghost use Rattle.rvmc_report.specs.Report.{has_trapped, is_trapped};
 ghost use Rattle.rvmc_explore.specs.Ends.{one_waits};
 ghost use Rattle.cl_explore.specs.Ends.{findings};
-ghost use Rattle.rvmc_explore.specs.Outcomes.{any_need};
-ghost use Rattle.rvmc_explore.specs.Telling.{any_end, holds_of, findings_status, trapped_in, waits_in};
+ghost use Rattle.rvmc_explore.specs.Telling.{any_end, holds_of, findings_status, is_all, is_somebody, is_unknown, trapped_in, waits_in};
 
 use crate::ends::waits;
-use crate::outcomes::Outcome;
-use cl_explore::{Exploration, KeptNode};
+use cl_explore::{Exploration, KeptNode, Needs};
 use cl_replay::SharedRank;
 use cl_state::KeptRank;
 use rv_hart::{Hart, Mode};
@@ -73,25 +71,33 @@ fn any_waits(nodes: &[KeptNode], order: &[u8], ends: &[usize]) -> bool
     ends.iter().any(|node| waits_in(nodes, order, *node))
 }
 
-/// Whether one of these is of ranks that need buffers.
-fn any_need(told: &[Outcome]) -> bool
-    ensures { result ≡ any_need told.now }
+/// Whether ranks that need buffers were looked for, and it isn't known whether there are any.
+pub(crate) fn is_unknown(needs: Needs) -> bool
+    ensures { result ≡ is_unknown needs }
 {
-    told.iter().any(|outcome| outcome.need)
+    matches!(needs, Needs::Unknown)
 }
 
-/// The status of a search of which this is told: 4 where not all is told, else 3 where a hart trapped at an end, else 7 where a
-/// hart that takes turns waits at one, some ranks are stuck, or it is told that ranks need buffers, else 8 where some runs go on
-/// for ever, else 0.
-pub(crate) fn search_status(
-    found: &Exploration,
-    order: &[u8],
-    told: &[Outcome],
-    unending: bool,
-) -> u8
-    ensures { result ≡ findings_status order.now (findings found.now) told.now unending }
+/// Whether some ranks need buffers.
+fn is_somebody(needs: Needs) -> bool
+    ensures { result ≡ is_somebody needs }
 {
-    if found.left > 0 {
+    matches!(needs, Needs::Somebody)
+}
+
+/// Whether all is told of a search that left so many states, and that knows this of ranks that need buffers.
+fn is_all(left: usize, needs: Needs) -> bool
+    ensures { result ≡ is_all left needs }
+{
+    left == 0 && !is_unknown(needs)
+}
+
+/// The status of a search that found this: 4 where not all is told, else 3 where a hart trapped at an end, else 7 where a hart
+/// that takes turns waits at one, some ranks are stuck, or some need buffers, else 8 where some runs go on for ever, else 0.
+pub(crate) fn search_status(found: &Exploration, order: &[u8], unending: bool) -> u8
+    ensures { result ≡ findings_status order.now (findings found.now) found.now.needs unending }
+{
+    if !is_all(found.left, found.needs) {
         return 4;
     }
     let nodes = found.nodes.as_slice();
@@ -99,7 +105,7 @@ pub(crate) fn search_status(
     if any_trapped(nodes, ends) {
         return 3;
     }
-    if any_waits(nodes, order, ends) || found.companies.len() > 0 || any_need(told) {
+    if any_waits(nodes, order, ends) || found.companies.len() > 0 || is_somebody(found.needs) {
         return 7;
     }
     if unending { 8 } else { 0 }

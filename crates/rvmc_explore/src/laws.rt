@@ -12,14 +12,15 @@ pub fn split_law()
 
 /// Status 0: whatever run follows the order of harts, of any length, it can still come to an end, and no ranks are stuck in it.
 /// Status 8: some run comes to where it can't end any more, and still no ranks are stuck in any. With either, no ranks need
-/// buffers in any run, if standard sends might wait for their receives in the search.
+/// buffers in any run, unless sends were to buffer or ranks have several harts. Unless a status is 4, it is the same for all
+/// searches of an image and an order of which either all take every send as buffered or none does, whatever their bounds.
 pub fn status_law()
     ensures { StatusLaw }
 {}
 
 /// If no state is left, there is only one answer for an image and an order: each text belongs to a place to which a run by the
 /// order leads, and no such run ends without its text. So any two searches tell the same ends, with the same status where both
-/// tell of ranks that need buffers, or neither does; and the record of a number leads to its text.
+/// know the same of ranks that need buffers; and the record of a number leads to its text.
 pub fn one_list_law()
     ensures { OneListLaw }
 {}

@@ -3,7 +3,7 @@
 ghost use Rattle.std.specs.Prelude.{◌≡◌, ◌<◌, ◌↔◌, ℕ, IfNone, IfOk, IfSome, List, OnOk, false, length, true};
 ghost use Rattle.cl_explore.specs.Ends.{findings};
 ghost use Rattle.cl_explore.specs.Listening.{IsEndNode, IsNeedNode};
-ghost use Rattle.rvmc_explore.specs.InnerOutcomes.{AddsEnd, AddsStuck, AreHeard, AreToldBeside, AreToldEnds, BeginsWith, CountsOne, HaveRoom, IsBodyAt, IsNew, IsOutcomeOf};
+ghost use Rattle.rvmc_explore.specs.InnerOutcomes.{AddsEnd, AddsStuck, AreHeard, AreToldBeside, AreToldEnds, BeginsWith, CountsOne, HaveRoom, IsBodyAt, IsNeedAmong, IsNew, IsOutcomeOf};
 ghost use Rattle.rvmc_explore.specs.Outcomes.{AreTold, HasBody, IsEndBody, IsNeedBody, IsStuckBody, any_need};
 ghost use Rattle.rvmc_explore.specs.Searched.{IsExplored, IsWithin};
 
@@ -168,7 +168,7 @@ pub(crate) fn new_need(
 ) -> Result<Option<Outcome>, AllocError>
     requires { node < length nodes.now }
     ensures { (order : List ℕ) → IsNeedNode image.now order nodes.now node ranks.now
-        → IfOk result (λ o. IfSome o (IsNew order image.now told.now)) }
+        → IfOk result (IsNeedAmong order image.now told.now) }
 {
     let body = need_body(alloc, image, nodes, node, ranks)?;
     if place_of(told, body.as_slice()).is_some() {

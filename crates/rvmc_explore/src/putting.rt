@@ -3,15 +3,16 @@
 ghost use Rattle.std.specs.Prelude.{◌≡◌, ◌<◌, ◌++◌, [], IfErr, IfOk, List, false, length, true, ℕ};
 ghost use Rattle.std.specs.Io.KnownBytes.{Appends};
 ghost use Rattle.cl_explore.specs.Ends.{findings};
+ghost use Rattle.cl_explore.specs.Needing.{SaysNeeds};
 ghost use Rattle.cl_lines.specs.Telling.{TellsProgress};
 ghost use Rattle.rvmc_explore.specs.InnerOutcomes.{AreHeard};
 ghost use Rattle.rvmc_explore.specs.Searched.{IsSearched};
 ghost use Rattle.rvmc_explore.specs.InnerTelling.{WereTold};
-ghost use Rattle.rvmc_explore.specs.Outcomes.{any_need};
+ghost use Rattle.rvmc_explore.specs.Outcomes.{ListsNeed, any_need};
 ghost use Rattle.rvmc_explore.specs.Telling.{AddsOutcomes, IsBegun, Tells};
 
 use crate::asked::Asked;
-use crate::closing::last_line;
+use crate::closing::{last_line, needs_line};
 use crate::counting::put_counts;
 use crate::hearing::Sends;
 use crate::judging::search_status;
@@ -61,6 +62,8 @@ fn search_telling<K: Outset + Sends, O: Write, E: Write>(
     ensures no_need { asked.now.buffered ≡ true → any_need teller.new.told.items ≡ false }
     ensures searched { IfOk result (λ found.
         IsSearched image.now asked.now.order.now asked.now.buffered asked.now.states asked.now.turns (findings found)) }
+    ensures needs { IfOk result (λ found. SaysNeeds asked.now.buffered image.now (findings found)
+        (ListsNeed image.now asked.now.order.now teller.new.told.items) found.needs) }
     ensures progress { TellsProgress asked.now.progress (E.contents err.old) (E.contents err.new) }
 {
     let course = Course {
@@ -86,6 +89,8 @@ fn rest_of(
         (findings found.now) }
     requires heard { AreHeard asked.now.order.now image.now heard.items }
     requires no_need { asked.now.buffered ≡ true → any_need heard.items ≡ false }
+    requires needs { SaysNeeds asked.now.buffered image.now (findings found.now)
+        (ListsNeed image.now asked.now.order.now heard.items) found.now.needs }
     ensures { IfOk result (λ rest. (text : List ℕ) → AddsOutcomes 1 heard.items [] text
         → Tells image.now asked.now.order.now asked.now.buffered asked.now.states asked.now.turns
         (text ++ rest.text.items) rest.status) }
@@ -100,17 +105,19 @@ fn rest_of(
     let unending = is_unending(alloc, found)?;
     let line = unending_line(alloc, unending)?;
     text.extend_from_slice(line.as_bytes())?;
+    let unknown = needs_line(alloc, found.needs)?;
+    text.extend_from_slice(unknown.as_bytes())?;
     let last = last_line(alloc, found, told.len(), asked.turns)?;
     text.extend_from_slice(last.as_bytes())?;
-    let status = search_status(found, asked.order, told.as_slice(), unending);
+    let status = search_status(found, asked.order, unending);
     Ok(Told { text, status })
 }
 
 /// Writes each outcome of a search on `out` when it is found: for an end its ranks, and what each waits for that waits there;
 /// for ranks that need buffers how they are held up; for ranks that are stuck while others run on, which come last, what they
 /// wait for; and the first message by which it differs from outcome 1. Behind them stands how many ends look like an outcome, if
-/// two or more do, whether some runs go on for ever, and in the last line whether the list is complete, or is so with buffered
-/// sends alone. No two outcomes have the same text. The status is 4 if the list isn't complete, else 3 if a hart trapped at an
+/// two or more do, whether some runs go on for ever, whether it is unknown if ranks need buffers, and in the last line whether the
+/// list is complete, or is so with buffered sends alone. No two outcomes have the same text. The status is 4 if the list isn't complete, else 3 if a hart trapped at an
 /// end, else 7 if a hart that takes turns waits at one, some ranks are stuck, or ranks need buffers, else 8 if some runs go on
 /// for ever, else 0. If asked for, lines on `err` say how far the search came.
 ///

@@ -3,9 +3,10 @@
 ghost use Rattle.std.specs.Prelude.{◌≡◌, ◌<◌, [], IfOk, false, length, true};
 ghost use Rattle.std.specs.Option.{option_map};
 ghost use Rattle.cl_explore.specs.Ends.{findings};
+ghost use Rattle.cl_explore.specs.Needing.{SaysNeeds};
 ghost use Rattle.rvmc_explore.specs.InnerOutcomes.{AreHeard};
 ghost use Rattle.rvmc_explore.specs.InnerRecorded.{RecordsIn};
-ghost use Rattle.rvmc_explore.specs.Outcomes.{any_need};
+ghost use Rattle.rvmc_explore.specs.Outcomes.{ListsNeed, any_need};
 ghost use Rattle.rvmc_explore.specs.Recorded.{RecordsEnd};
 ghost use Rattle.rvmc_explore.specs.Searched.{IsSearched};
 ghost use Rattle.cl_lines.specs.Telling.{TellsProgress};
@@ -57,6 +58,8 @@ fn search_hearing<K: Sends, E: Write>(
     ensures no_need { asked.now.buffered ≡ true → any_need hearer.new.told.items ≡ false }
     ensures searched { IfOk result (λ found.
         IsSearched image.now asked.now.order.now asked.now.buffered asked.now.states asked.now.turns (findings found)) }
+    ensures needs { IfOk result (λ found. SaysNeeds asked.now.buffered image.now (findings found)
+        (ListsNeed image.now asked.now.order.now hearer.new.told.items) found.needs) }
     ensures progress { TellsProgress asked.now.progress (E.contents err.old) (E.contents err.new) }
 {
     let course = Course {

@@ -4,6 +4,7 @@ ghost use Rattle.std.specs.Prelude.{◌≡◌, ◌<◌, [], IfErr, IfOk, None, f
 ghost use Rattle.std.specs.Option.{option_map};
 ghost use Rattle.rv_image.specs.Text.{image_text};
 ghost use Rattle.cl_explore.specs.Ends.{ExploredBehind, IsBounded, findings};
+ghost use Rattle.cl_explore.specs.declared.needs.Needs.TheVariants as needs;
 ghost use Rattle.rvmc_starts.specs.Sums.{sum_of};
 ghost use Rattle.cl_lines.specs.Telling.{TellsProgress};
 ghost use Rattle.rvmc_explore.specs.InnerOutcomes.{AreHeard};
@@ -121,6 +122,7 @@ fn searched<E: Write>(
     ensures known { IfOk result (λ found. start.now.image ≡ sum_of (image_text image.now)) }
     ensures ends { IfOk result (λ found. ExploredBehind image.now start.now.harts start.now.turns (findings found)) }
     ensures most { IfOk result (λ found. IsBounded reach.states None reach.turns found.nodes.items found.left) }
+    ensures unsought { IfOk result (λ found. found.needs ≡ needs.Unsought) }
     ensures fault { IfErr result (StartFaultHolds image.now start.now) }
     ensures progress { TellsProgress reach.progress (E.contents err.old) (E.contents err.new) }
 {
@@ -167,7 +169,7 @@ pub fn explored_from<E: Write>(
     let told = tell(alloc, image, order, &found, hearer.told)?;
     let ends = ends_told(alloc, image, told.as_slice())?;
     let unending = is_unending(alloc, &found)?;
-    let status = search_status(&found, order, told.as_slice(), unending);
+    let status = search_status(&found, order, unending);
     let part = Part {
         number: start.number,
         count: start.count,

@@ -5,7 +5,7 @@ ghost use Rattle.std.specs.Io.KnownBytes.{Appends};
 ghost use Rattle.cl_explore.specs.Listening.{IsEndNode, IsNeedNode};
 ghost use Rattle.rvmc_explore.specs.InnerOutcomes.{AreHeard};
 ghost use Rattle.rvmc_explore.specs.InnerTelling.{WereTold};
-ghost use Rattle.rvmc_explore.specs.Outcomes.{any_need};
+ghost use Rattle.rvmc_explore.specs.Outcomes.{ListsNeed, any_need};
 ghost use Rattle.rvmc_explore.specs.Telling.{AddsOutcome};
 
 use crate::hearing::Sends;
@@ -97,6 +97,8 @@ impl<'a, O: Write, K: Outset + Sends> Listener for Teller<'a, O, K> {
     ghost holds = { λ teller image order. (teller.out.ghost_name ≡ K.name) × (teller.buffered ≡ K.buffered)
         × AreHeard order image teller.told.items × (K.buffered ≡ true → any_need teller.told.items ≡ false)
         × WereTold teller.told.items teller.taken K.before (O.contents teller.out.now) };
+
+    ghost told_need = { λ teller image order. K.buffered ≡ false → ListsNeed image order teller.told.items };
 
     fn end(
         &mut self,

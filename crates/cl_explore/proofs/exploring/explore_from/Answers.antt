@@ -3,6 +3,7 @@ use Rattle.cl_explore.specs.How.{at_once, plainly}
 use Rattle.cl_explore.proofs.Finds.{explored_behind}
 use Rattle.cl_lines.proofs.Behind.{told_behind}
 use Rattle.cl_explore.proofs.Hears.{came_behind}
+use Rattle.cl_explore.proofs.Needing.{says_known, says_whole}
 use Rattle.cl_explore.proofs.exploring.explore_from.Goals as goal
 
 pub returns-in-Some-2-clause-ends : goal.returns-in-Some-2-clause-ends
@@ -45,3 +46,32 @@ search_at_once-requires-clause-came g c =
 pub search_plainly-requires-clause-came : goal.search_plainly-requires-clause-came
 search_plainly-requires-clause-came g c =
     came_behind c.args.image.now c.args.course.now.order.now c.args.turns.now c.in_ok-again.again c.in_ok-again.ensures.led
+
+pub returns-in-Some-clause-needs : goal.returns-in-Some-clause-needs
+returns-in-Some-clause-needs g c =
+    let image = c.args.image.now in
+    let order = c.args.course.now.order.now in
+    says_whole c.args.course.now.buffered image (findings c.in-Some.found)
+    (g.L.Listener.told_need c.search_by_patterns.new.listener image order) c.known_before-known.result
+    c.search_by_patterns.new.known c.needs_of-found.result c.known_before-known.ensures c.in_ok-found.ensures.known
+    (rw c.in-Some.is at c.in_ok-found.ensures.whole) c.needs_of-found.ensures
+
+pub returns-in-Some-2-clause-needs : goal.returns-in-Some-2-clause-needs
+returns-in-Some-2-clause-needs g c =
+    let image = c.args.image.now in
+    let order = c.args.course.now.order.now in
+    says_known c.args.course.now.buffered image (findings c.in-Some-2.found)
+    (g.L.Listener.told_need c.search_by_patterns.new.listener image order)
+    (g.L.Listener.told_need c.search_at_once.new.listener image order) c.known_before-known.result
+    c.search_by_patterns.new.known c.known_before-known.ensures c.in_ok-found.ensures.known
+    c.search_at_once.ensures.still
+
+pub returns-clause-needs : goal.returns-clause-needs
+returns-clause-needs g c =
+    let image = c.args.image.now in
+    let order = c.args.course.now.order.now in
+    says_known c.args.course.now.buffered image (findings c.in_ok-found-3.found)
+    (g.L.Listener.told_need c.search_by_patterns.new.listener image order)
+    (g.L.Listener.told_need c.search_plainly.new.listener image order) c.known_before-known.result
+    c.search_by_patterns.new.known c.known_before-known.ensures c.in_ok-found.ensures.known
+    (λ was. c.search_plainly.ensures.still (c.search_at_once.ensures.still was))

@@ -7,8 +7,10 @@ use Rattle.cl_contests.specs.Kept.{search_of}
 use Rattle.cl_contests.specs.declared.patterns.Patterns.{Patterns}
 use Rattle.cl_explore.specs.Ends.{findings}
 use Rattle.cl_explore.specs.How.{by_contest}
-use Rattle.cl_explore.proofs.Finds.{bounded_if, explored_behind, if_some_on, may_begin}
+use Rattle.cl_explore.proofs.Finds.{explored_behind, if_some_on, may_begin}
 use Rattle.cl_explore.proofs.Hears.{came_behind}
+use Rattle.cl_explore.proofs.Needing.{note_on, noted_then, whole_then}
+use Rattle.cl_explore.specs.Needing.{AreSought}
 use Rattle.cl_explore.proofs.exploring.search_by_patterns.Goals.{else-is_empty, then-is_empty+else-not-patterns}
 use Rattle.cl_explore.proofs.exploring.search_by_patterns.Goals as goal
 
@@ -29,15 +31,29 @@ pub returns-in_err-add_all-clause-progress : goal.returns-in_err-add_all-clause-
 returns-in_err-add_all-clause-progress g c = told_behind c.args.course.now.progress _ _ _ c.loop-try.invariant.0 c.search.ensures.progress
 
 pub loop-try-preserved : goal.loop-try-preserved
-loop-try-preserved g c = (
-  told_behind c.args.course.now.progress _ _ _ c.loop-try.invariant.0 c.search.ensures.progress,
-  c.tell_first_needs.ensures.holds,
-  λ buffers. c.in_ok-add_all.ensures.still ∙ elim c.if-is_empty.branch [
-    | then-is_empty+else-not-patterns w ↦ subst (λ (p : Patterns). p.may_wait ≡ false) (sym w.patterns-is) refl
-    | else-is_empty w ↦ subst (λ (p : Patterns). p.may_wait ≡ false) (sym w.patterns-is)
-        (c.in_ok-add_waits.ensures.still ∙ c.loop-try.invariant.2 buffers)
-  ],
-)
+loop-try-preserved g c =
+    let image = c.args.image.now in
+    let order = c.args.course.now.order.now in
+    let buffered = c.args.course.now.buffered in
+    let may_wait = c.add_waits.new.patterns.may_wait in
+    let same = ap (λ (p : ImageParts). p.harts) c.parts.ensures.parts in
+    let one : image.harts ≡ 1 = omega (arith, c.if-parts-ne1.false, same) in
+    let before = g.L.Listener.told_need c.loop-try.listener image order in
+    let told = g.L.Listener.told_need c.search.new.listener image order in
+    let last = g.L.Listener.told_need c.tell_first_needs.new.listener image order in (
+      told_behind c.args.course.now.progress _ _ _ c.loop-try.invariant.0 c.search.ensures.progress,
+      c.tell_first_needs.ensures.holds,
+      λ buffers. c.in_ok-add_all.ensures.still ∙ elim c.if-is_empty.branch [
+        | then-is_empty+else-not-patterns w ↦ subst (λ (p : Patterns). p.may_wait ≡ false) (sym w.patterns-is) refl
+        | else-is_empty w ↦ subst (λ (p : Patterns). p.may_wait ≡ false) (sym w.patterns-is)
+            (c.in_ok-add_waits.ensures.still ∙ c.loop-try.invariant.2 buffers)
+      ],
+      note_on (AreSought buffered image × told) (AreSought buffered image × last) c.args.known.now c.search.new.known
+          (λ v. (v.0, c.tell_first_needs.ensures.still v.1))
+          (noted_then buffered may_wait image before told c.args.known.now c.loop-try.known c.search.new.known one
+          (λ buffers. c.in_ok-add_waits.ensures.still ∙ c.loop-try.invariant.2 buffers) c.search.ensures.still
+          c.loop-try.invariant.3 c.search.ensures.known),
+    )
 
 pub returns-then-is_wanted-clause-ends : goal.returns-then-is_wanted-clause-ends
 returns-then-is_wanted-clause-ends g c =
@@ -71,6 +87,40 @@ search-requires-clause-image g c = λ waits.
     (c.parts.ensures.limits, omega (arith, c.if-parts-ne1.false, same))
 
 pub returns-then-is_wanted-clause-most : goal.returns-then-is_wanted-clause-most
-returns-then-is_wanted-clause-most g c =
-    bounded_if c.args.states c.states_in.result c.args.course.now.most c.add_waits.new.patterns.may_wait c.in_ok-found.found
-    c.states_in.ensures (c.is_wanted.ensures c.if-is_wanted.true) c.in_ok-found.ensures.most
+returns-then-is_wanted-clause-most g c = c.in_ok-found.ensures.most
+
+pub returns-then-is_wanted-clause-whole : goal.returns-then-is_wanted-clause-whole
+returns-then-is_wanted-clause-whole g c =
+    let same = ap (λ (p : ImageParts). p.harts) c.parts.ensures.parts in
+    let one : c.args.image.now.harts ≡ 1 = omega (arith, c.if-parts-ne1.false, same) in
+    whole_then c.args.course.now.buffered c.add_waits.new.patterns.may_wait c.args.image.now c.in_ok-found.found one
+    (λ buffers. c.in_ok-add_waits.ensures.still ∙ c.loop-try.invariant.2 buffers)
+    (c.is_wanted.ensures c.if-is_wanted.true) c.in_ok-found.ensures.waits
+
+pub returns-then-is_wanted-clause-known : goal.returns-then-is_wanted-clause-known
+returns-then-is_wanted-clause-known g c =
+    let image = c.args.image.now in
+    let order = c.args.course.now.order.now in
+    let same = ap (λ (p : ImageParts). p.harts) c.parts.ensures.parts in
+    let one : image.harts ≡ 1 = omega (arith, c.if-parts-ne1.false, same) in
+    noted_then c.args.course.now.buffered c.add_waits.new.patterns.may_wait image
+    (g.L.Listener.told_need c.loop-try.listener image order) (g.L.Listener.told_need c.search.new.listener image order)
+    c.args.known.now c.loop-try.known c.search.new.known one
+    (λ buffers. c.in_ok-add_waits.ensures.still ∙ c.loop-try.invariant.2 buffers) c.search.ensures.still
+    c.loop-try.invariant.3 c.search.ensures.known
+
+pub returns-then-not-patterns-clause-known : goal.returns-then-not-patterns-clause-known
+returns-then-not-patterns-clause-known g c =
+    let image = c.args.image.now in
+    let order = c.args.course.now.order.now in
+    let buffered = c.args.course.now.buffered in
+    let same = ap (λ (p : ImageParts). p.harts) c.parts.ensures.parts in
+    let one : image.harts ≡ 1 = omega (arith, c.if-parts-ne1.false, same) in
+    let told = g.L.Listener.told_need c.search.new.listener image order in
+    let last = g.L.Listener.told_need c.tell_first_needs.new.listener image order in
+    note_on (AreSought buffered image × told) (AreSought buffered image × last) c.args.known.now c.search.new.known
+    (λ v. (v.0, c.tell_first_needs.ensures.still v.1))
+    (noted_then buffered c.add_waits.new.patterns.may_wait image
+    (g.L.Listener.told_need c.loop-try.listener image order) told c.args.known.now c.loop-try.known c.search.new.known one
+    (λ buffers. c.in_ok-add_waits.ensures.still ∙ c.loop-try.invariant.2 buffers) c.search.ensures.still
+    c.loop-try.invariant.3 c.search.ensures.known)

@@ -22,6 +22,7 @@ rest-init g c = (
   nothing_told c.args.course.now.progress _,
   c.requires.of,
   c.requires.holds,
+  λ is. is,
 )
 
 pub rest-preserved : goal.rest-preserved
@@ -43,6 +44,7 @@ rest-preserved g c =
       (visited (how_in c.args.course.now) c.args.course.now.image.now c.args.course.now.order.now c.rest.search c.visit.new.self
           c.rest.done c.rest.invariant.3 inside c.in_ok-visit.visit c.in_ok-visit.ensures.visits).0,
       c.tell_need.ensures.holds,
+      λ was. c.tell_need.ensures.still (c.tell_end.ensures.still (c.rest.invariant.5 was)),
     )
 
 pub tell_end-requires-clause-end : goal.tell_end-requires-clause-end
@@ -64,6 +66,9 @@ tell_need-requires-clause-need g c =
     (sym c.as_slice-in-rest-3.ensures.value)
     (needed (how_in course) course.image.now course.order.now c.rest.search c.visit.new.self c.rest.done c.rest.invariant.3
     inside c.requires.image c.in_ok-visit.visit c.in_ok-visit.ensures.waits c.in_ok-visit.ensures.visits)
+
+pub tell_need-requires-clause-waits : goal.tell_need-requires-clause-waits
+tell_need-requires-clause-waits g c = c.in_ok-visit.ensures.waits
 
 pub tell_need-requires-clause-way : goal.tell_need-requires-clause-way
 tell_need-requires-clause-way g c = λ some.

@@ -17,6 +17,8 @@ invariant-rest g l =
     × TellsProgress l.course.progress (g.E.Write.contents l.fn.err) (g.E.Write.contents l.err)
     × IsSearchOf (how_in l.course) l.course.image.now l.course.order.now l.search
     × g.L.Listener.holds l.listener l.course.image.now l.course.order.now
+    × (g.L.Listener.told_need l.fn.listener l.course.image.now l.course.order.now
+    → g.L.Listener.told_need l.listener l.course.image.now l.course.order.now)
 
 abbrev pub decreases-rest : goal.decreases-rest
 decreases-rest g l = l.bounds.states - l.done

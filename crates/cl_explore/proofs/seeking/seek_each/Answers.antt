@@ -7,4 +7,5 @@ rest-init g c = (
   begun (how_in c.args.course.now) c.args.course.now.image.now c.args.course.now.order.now c.args.standing.now
       c.begin.new.search c.requires.came c.in_ok-begin.ensures.begins,
   c.requires.holds,
+  λ is. is,
 )

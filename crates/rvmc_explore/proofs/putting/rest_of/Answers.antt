@@ -2,10 +2,12 @@ use Rattle.std.proofs.Common.{List, [], ℕ, refl, ◌≡◌, ◌+◌, ◌∙◌
 use Rattle.std.proofs.lemmas.List.{append_assoc}
 use Rattle.cl_explore.specs.Ends.{findings}
 use Rattle.cl_moves.specs.Standing.{first_node}
-use Rattle.rvmc_explore.specs.Telling.{AddsOutcomes, ends_lines, last_line, unending_line}
+use Rattle.rvmc_explore.specs.Telling.{AddsOutcomes, ends_lines, last_line, needs_line, unending_line}
 use Rattle.rvmc_explore.proofs.Endless.{says_ends_anyway, says_none_need, says_none_stuck}
 use Rattle.rvmc_explore.proofs.Heard.{all_behind}
 use Rattle.rvmc_explore.proofs.Listed.{within}
+use Rattle.rvmc_explore.proofs.Needed.{begun_listed, says_on}
+use Rattle.rvmc_explore.specs.Outcomes.{ListsNeed}
 use Rattle.rvmc_explore.proofs.putting.rest_of.Goals as goal
 
 pub tell-requires-clause-explored : goal.tell-requires-clause-explored
@@ -26,17 +28,21 @@ returns c = λ before lines.
     let body = c.put_told.new.text.items in
     let counts = ends_lines 1 told in
     let line = unending_line c.in_ok-unending.unending in
+    let unknown = needs_line found.needs in
     let last = last_line (length told) (length found.nodes.items) found.left found.may_wait found.long c.args.asked.now.turns in
     let explored = (c.requires.searched).explored in
     let many : c.len-before.result ≡ length heard.items = c.len-before.ensures ∙ heard.ok.0 in
     let counted : c.put_counts.new.text.items ≡ body ++ counts =
     c.in_ok-put_counts.ensures ∙ ap (λ os. body ++ ends_lines 1 os) c.as_slice-2.ensures.value in
     let first : c.extend_from_slice.new.self.items ≡ c.put_counts.new.text.items ++ line = search rules in
-    let closed : c.extend_from_slice-2.new.self.items ≡ c.extend_from_slice.new.self.items ++ last = search rules in
-    let whole : c.extend_from_slice-2.new.self.items ≡ body ++ (counts ++ (line ++ last)) =
+    let second : c.extend_from_slice-2.new.self.items ≡ c.extend_from_slice.new.self.items ++ unknown = search rules in
+    let closed : c.extend_from_slice-3.new.self.items ≡ c.extend_from_slice-2.new.self.items ++ last = search rules in
+    let whole : c.extend_from_slice-3.new.self.items ≡ body ++ (counts ++ (line ++ (unknown ++ last))) =
     closed
-    ∙ (ap (λ text. text ++ last) (first ∙ ap (λ (text : List ℕ). text ++ line) counted)
-    ∙ (append_assoc (body ++ counts) line last ∙ append_assoc body counts (line ++ last))) in
+    ∙ (ap (λ text. text ++ last)
+    (second ∙ ap (λ (text : List ℕ). text ++ unknown) (first ∙ ap (λ (text : List ℕ). text ++ line) counted))
+    ∙ (append_assoc (body ++ counts ++ line) unknown last
+    ∙ (append_assoc (body ++ counts) line (unknown ++ last) ∙ append_assoc body counts (line ++ (unknown ++ last))))) in
     let those : AddsOutcomes (length heard.items + 1) (drop (length heard.items) told) [] body =
     subst (λ n. AddsOutcomes (n + 1) (drop n told) [] body) many
     (subst (λ (old : List ℕ). AddsOutcomes (c.len-before.result + 1) (drop c.len-before.result told) old body)
@@ -50,6 +56,11 @@ returns c = λ before lines.
         searched = c.requires.searched;
         are = c.in_ok-told.ensures.told;
         no_need = λ copied. c.in_ok-told.ensures.needs ∙ c.requires.no_need copied;
+        needs = found.needs;
+        needs_are = says_on c.args.asked.now.buffered image (findings found) (ListsNeed image order heard.items)
+            (ListsNeed image order told) found.needs
+            (λ sought listed. begun_listed image order heard.items told c.in_ok-told.ensures.begins listed)
+            c.requires.needs;
       };
       long = found.long;
       unending = c.in_ok-unending.unending;
@@ -59,6 +70,6 @@ returns c = λ before lines.
       ends_anyway = says_ends_anyway image order (findings found) c.parts-parts.ensures.limits explored;
       body = before ++ body;
       lines = all_behind heard.items told c.in_ok-told.ensures.begins before body lines those;
-      spelled = ap (λ (text : List ℕ). before ++ text) whole ∙ sym (append_assoc before body (counts ++ (line ++ last)));
+      spelled = ap (λ (text : List ℕ). before ++ text) whole ∙ sym (append_assoc before body (counts ++ (line ++ (unknown ++ last))));
       status_is = search rules;
     }

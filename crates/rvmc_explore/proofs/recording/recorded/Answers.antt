@@ -4,6 +4,8 @@ use Rattle.cl_explore.specs.Ends.{findings}
 use Rattle.cl_moves.specs.Standing.{first_node}
 use Rattle.rvmc_explore.specs.InnerRecorded.{RecordsIn}
 use Rattle.rvmc_explore.proofs.Listed.{within}
+use Rattle.rvmc_explore.proofs.Needed.{begun_listed, says_on}
+use Rattle.rvmc_explore.specs.Outcomes.{ListsNeed}
 use Rattle.rvmc_explore.proofs.ToEnds.{records_end}
 use Rattle.rvmc_explore.proofs.recording.recorded.Goals as goal
 
@@ -25,6 +27,13 @@ returns-clause-steps g c =
       searched = c.in_ok-found.ensures.searched;
       are = c.in_ok-told.ensures.told;
       no_need = λ copied. c.in_ok-told.ensures.needs ∙ c.search_hearing.ensures.no_need copied;
+      needs = (c.in_ok-found.found).needs;
+      needs_are = says_on c.args.asked.now.buffered c.args.image.now (findings c.in_ok-found.found)
+          (ListsNeed c.args.image.now c.args.asked.now.order.now c.search_hearing.new.hearer.told.items)
+          (ListsNeed c.args.image.now c.args.asked.now.order.now c.in_ok-told.told.items) (c.in_ok-found.found).needs
+          (λ sought listed. begun_listed c.args.image.now c.args.asked.now.order.now
+          c.search_hearing.new.hearer.told.items c.in_ok-told.told.items c.in_ok-told.ensures.begins listed)
+          c.in_ok-found.ensures.needs;
     })
     (subst (λ os. RecordsIn os c.args.number (option_map (λ s. s.items) c.in_ok-record_in.field-0)) c.as_slice.ensures.value
     c.in_ok-record_in.ensures)

@@ -76,9 +76,10 @@ returns-clause-told g c =
       none_stuck = says_none_stuck c.args.image.now start.harts behind.start (findings found)
           c.parts-parts.ensures.limits behind.explored;
       status_is = c.search_status-status.ensures
-          ∙ (ap (λ order. findings_status order (findings found) c.as_slice-2.result.now c.in_ok-unending.unending)
+          ∙ (ap (λ order. findings_status order (findings found) found.needs c.in_ok-unending.unending)
           c.as_slice-order.ensures
-          ∙ ap (λ os. findings_status start.harts (findings found) os c.in_ok-unending.unending) c.as_slice-2.ensures.value);
+          ∙ ap (λ known. findings_status start.harts (findings found) known c.in_ok-unending.unending)
+          c.in_ok-found.ensures.unsought);
       status_told = refl;
       spelled = c.in_ok-put_part.ensures ∙ ap (λ (old : List ℕ). old ++ part_text part) c.new-text.ensures.items;
     }

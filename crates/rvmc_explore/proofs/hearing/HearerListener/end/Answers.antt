@@ -1,5 +1,6 @@
 use Rattle.std.proofs.Common.{subst}
 use Rattle.rvmc_explore.specs.InnerOutcomes.{IsNew}
+use Rattle.rvmc_explore.proofs.Needed.{stays_listed}
 use Rattle.rvmc_explore.proofs.Heard.{heard_more, none_needed_more}
 use Rattle.rvmc_explore.proofs.hearing.HearerListener.end.Goals as goal
 
@@ -19,4 +20,5 @@ returns g c =
         none_needed_more g.K.Sends.buffered told c.push.new.self.items outcome
             (rw c.in-Some.is at c.in_ok-outcome.ensures.no_need) c.in_ok-push.ensures.items (c.requires.holds).2,
       );
+      still = λ was waits. stays_listed image order told c.push.new.self.items outcome c.in_ok-push.ensures.items (was waits);
     }

@@ -1,5 +1,7 @@
 use Rattle.std.proofs.Common.{subst}
 use Rattle.rvmc_explore.specs.InnerOutcomes.{IsNew}
+use Rattle.rvmc_explore.specs.Outcomes.{IsNeedOutcome}
+use Rattle.rvmc_explore.proofs.Needed.{now_listed, stays_listed}
 use Rattle.rvmc_explore.proofs.Heard.{heard_more, need_inside, none_copied}
 use Rattle.rvmc_explore.proofs.hearing.HearerListener.need.Goals as goal
 
@@ -13,13 +15,17 @@ returns g c =
     let image = c.args.image.now in
     let told = c.args.self.now.told.items in
     let outcome = c.in-Some.outcome in
+    let one =
+    subst (λ os. IsNew order image os outcome × IsNeedOutcome order image outcome) c.as_slice.ensures.value
+    (rw c.in-Some.is at (c.in_ok-outcome.ensures order c.requires.need)) in
     record {
       holds = (
         (c.requires.holds).0,
         heard_more order image told c.push.new.self.items outcome
-            (subst (λ os. IsNew order image os outcome) c.as_slice.ensures.value
-            (rw c.in-Some.is at (c.in_ok-outcome.ensures order c.requires.need)))
+            one.0
             c.in_ok-push.ensures.items (c.requires.holds).1,
         none_copied g.K.Sends.buffered c.args.self.now.buffered c.push.new.self.items (c.requires.holds).0 c.if-self.false,
       );
+      told = λ waits. now_listed image order told c.push.new.self.items outcome c.in_ok-push.ensures.items one.1;
+      still = λ was waits. stays_listed image order told c.push.new.self.items outcome c.in_ok-push.ensures.items (was waits);
     }

@@ -2,6 +2,7 @@ use Rattle.std.proofs.Common.{[], ℕ, List, length, subst, true, ◌+◌, ◌�
 use Rattle.std.specs.Io.KnownBytes.{Appends}
 use Rattle.rvmc_explore.specs.InnerOutcomes.{IsNew}
 use Rattle.rvmc_explore.specs.Telling.{AddsOutcome}
+use Rattle.rvmc_explore.proofs.Needed.{stays_listed}
 use Rattle.rvmc_explore.proofs.Heard.{heard_more, none_needed_more, one_told_more}
 use Rattle.rvmc_explore.proofs.teller.TellerListener.end.Goals as goal
 
@@ -31,4 +32,5 @@ returns g c =
             c.as_slice-3.ensures.value c.put_behind-self.ensures)
             (c.requires.holds).4,
       );
+      still = λ was waits. stays_listed image order told new outcome c.in_ok-push.ensures.items (was waits);
     }

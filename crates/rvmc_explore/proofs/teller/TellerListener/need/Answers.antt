@@ -2,6 +2,8 @@ use Rattle.std.proofs.Common.{[], ℕ, List, length, subst, true, ◌+◌, ◌�
 use Rattle.std.specs.Io.KnownBytes.{Appends}
 use Rattle.rvmc_explore.specs.InnerOutcomes.{IsNew}
 use Rattle.rvmc_explore.specs.Telling.{AddsOutcome}
+use Rattle.rvmc_explore.specs.Outcomes.{IsNeedOutcome}
+use Rattle.rvmc_explore.proofs.Needed.{now_listed, stays_listed}
 use Rattle.rvmc_explore.proofs.Heard.{heard_more, need_inside, none_copied, one_told_more}
 use Rattle.rvmc_explore.proofs.teller.TellerListener.need.Goals as goal
 
@@ -16,14 +18,16 @@ returns g c =
     let told = c.args.self.now.told.items in
     let new = c.push.new.self.items in
     let outcome = c.in-Some.outcome in
+    let one =
+    subst (λ os. IsNew order image os outcome × IsNeedOutcome order image outcome) c.as_slice.ensures.value
+    (rw c.in-Some.is at (c.in_ok-outcome.ensures order c.requires.need)) in
     let piece = c.in_ok-text.text.items in
     record {
       holds = (
         (c.requires.holds).0,
         (c.requires.holds).1,
         heard_more order image told new outcome
-            (subst (λ os. IsNew order image os outcome) c.as_slice.ensures.value
-            (rw c.in-Some.is at (c.in_ok-outcome.ensures order c.requires.need)))
+            one.0
             c.in_ok-push.ensures.items (c.requires.holds).2,
         none_copied g.K.Sends.buffered c.args.self.now.buffered new (c.requires.holds).1 c.if-self.false,
         one_told_more told new outcome c.args.self.now.taken c.put_behind-self.result g.K.Outset.before
@@ -35,4 +39,6 @@ returns g c =
             c.as_slice-3.ensures.value c.put_behind-self.ensures)
             (c.requires.holds).4,
       );
+      told = λ waits. now_listed image order told new outcome c.in_ok-push.ensures.items one.1;
+      still = λ was waits. stays_listed image order told new outcome c.in_ok-push.ensures.items (was waits);
     }
