@@ -11,3 +11,5 @@ pub mod Heard
 pub mod Places
 pub mod Needed
 pub mod Statuses
+pub mod Hanging
+pub mod Hung

@@ -56,12 +56,12 @@ needs_added old new added no_need is =
     ∙ (ap (λ b. any_need old || b) no_need ∙ or-false (any_need old)))
 
 -- a text is told, and those that were told are, and no more ranks that need buffers
-record Grows (old new : List Outcome) (body : List ℕ) : Type 0 where
-  stays : (text : List ℕ) → HasBody old text → HasBody new text
-  here : HasBody new body
-  still_apart : AreApart old → AreApart new
-  begins : (first : List Outcome) → BeginsWith first old → BeginsWith first new
-  needs : any_need new ≡ any_need old
+pub record Grows (old new : List Outcome) (body : List ℕ) : Type 0 where
+  pub stays : (text : List ℕ) → HasBody old text → HasBody new text
+  pub here : HasBody new body
+  pub still_apart : AreApart old → AreApart new
+  pub begins : (first : List Outcome) → BeginsWith first old → BeginsWith first new
+  pub needs : any_need new ≡ any_need old
 
 -- by an outcome behind the others, none of which has its text
 module _ (old new : List Outcome) (added : Outcome) (unlike : HasBody old added.body.items → ⊥)
@@ -221,7 +221,7 @@ was_end kept old new node body (inr adds) k outcome there = elim (was_one kept o
   | inr one ↦ inr one
 ]
 
-by_stuck : (kept : List KeptNode) (old new : List Outcome) (node : ℕ) (body : List ℕ) → AddsStuck kept old node body new
+pub by_stuck : (kept : List KeptNode) (old new : List Outcome) (node : ℕ) (body : List ℕ) → AddsStuck kept old node body new
     → Grows old new body
 by_stuck kept old new node body (inl same) = record {
   stays = λ text has. subst (λ os. HasBody os text) (sym same.1) has;
@@ -232,7 +232,7 @@ by_stuck kept old new node body (inl same) = record {
 }
 by_stuck kept old new node body (inr adds) = by_one kept old new node body 0 adds
 
-was_stuck : (kept : List KeptNode) (old new : List Outcome) (node : ℕ) (body : List ℕ) → AddsStuck kept old node body new
+pub was_stuck : (kept : List KeptNode) (old new : List Outcome) (node : ℕ) (body : List ℕ) → AddsStuck kept old node body new
     → (k : ℕ) (outcome : Outcome) → slice_get new k ≡ Some outcome
     → (slice_get old k ≡ Some outcome) ⊎ IsOutcomeOf kept node body 0 false outcome
 was_stuck kept old new node body (inl same) k outcome at = inl (subst (λ os. slice_get os k ≡ Some outcome) same.1 at)
@@ -499,7 +499,7 @@ pub record StuckSoFar (order : List ℕ) (image : ImageParts) (found : Findings)
 as_outcome : (order : List ℕ) (image : ImageParts) (found : Findings) (outcome : Outcome) → IsHeard order image outcome
     → IsOutcome order image found outcome
 as_outcome order image found outcome (inl end) = inl end
-as_outcome order image found outcome (inr need) = inr (inr need)
+as_outcome order image found outcome (inr need) = inr (inr (inl need))
 
 pub ends_alone : (order : List ℕ) (image : ImageParts) (found : Findings) (heard told : List Outcome)
     → AreToldEnds order image found told → BeginsWith heard told → any_need told ≡ any_need heard
@@ -513,7 +513,7 @@ ends_alone order image found heard told are begun needs = record {
   needs = needs;
 }
 
-still_counted : (order : List ℕ) (image : ImageParts) (found : Findings) (old new : List Outcome) (node : ℕ)
+pub still_counted : (order : List ℕ) (image : ImageParts) (found : Findings) (old new : List Outcome) (node : ℕ)
     (body : List ℕ) → AddsStuck found.kept old node body new → AreCounted order image found old
     → AreCounted order image found new
 still_counted order image found old new node body adds are = record {

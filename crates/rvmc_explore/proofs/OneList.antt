@@ -13,6 +13,7 @@ use Rattle.cl_machine.specs.Cluster.{Cluster, IsRun, loaded_cluster}
 use Rattle.cl_machine.specs.declared.steps.Step.{Step}
 use Rattle.cl_order_laws.specs.Closed.{FollowPlans, IsEnd, Node, none_had, had_after}
 use Rattle.cl_outcome_laws.specs.Unending.{MayEnd}
+use Rattle.cl_patient_laws.specs.Patient.{HangsIfSendsWait}
 use Rattle.cl_explore.specs.Below.{AreBelow}
 use Rattle.cl_deadlock_laws.proofs.Reached.{comes_reached}
 use Rattle.cl_explore.specs.Below.{IsOrder}
@@ -20,12 +21,14 @@ use Rattle.cl_moves.specs.Standing.{by_order, first_node, node_of}
 use Rattle.cl_explore.specs.Ends.{AreAlikeEnds, Explored, Findings}
 use Rattle.cl_explore.specs.declared.companies.Company.{Company}
 use Rattle.cl_explore.specs.declared.kept.KeptNode.{KeptNode}
+use Rattle.cl_explore.specs.declared.needs.Needs.{Needs}
 use Rattle.cl_explore.proofs.Lists.{at_inside}
 use Rattle.cl_replay.specs.Kept.{Snapshot}
 use Rattle.rvmc_report.specs.Report.{has_trapped}
 use Rattle.rvmc_explore.specs.Endless.{AllMayEnd, NeverNeeds, SaysUnending, SomeNeverEnds}
 use Rattle.rvmc_explore.specs.Ends.{one_waits, IsWaitText, any_waits}
 use Rattle.rvmc_explore.specs.OneList.{LeadsToText, OneListLaw, TellsEnd, lines_from}
+use Rattle.rvmc_explore.specs.Hangs.{SaysHanging}
 use Rattle.rvmc_explore.specs.Outcomes.{IsListOf, IsOutcome, any_need}
 use Rattle.rvmc_explore.specs.Recorded.{Leads, LeadsTo, numbered}
 use Rattle.rvmc_explore.proofs.Listed.{end_told}
@@ -80,7 +83,8 @@ unneeded : (image : ImageParts) (order : List ℕ) (found : Findings) (outcome :
     → NeverNeeds image order (first_node image) → IsOutcome order image found outcome → outcome.need ≡ true → ⊥
 unneeded image order found outcome never (inl end) is = let no : true ≡ false = sym is ∙ end.no_need in absurd (cc)
 unneeded image order found outcome never (inr (inl stuck)) is = let no : true ≡ false = sym is ∙ stuck.6 in absurd (cc)
-unneeded image order found outcome never (inr (inr needs)) is =
+unneeded image order found outcome never (inr (inr (inr hang))) is = let no : true ≡ false = sym is ∙ hang.no_need in absurd (cc)
+unneeded image order found outcome never (inr (inr (inl needs))) is =
     let there = (needs.node).cluster in
     let count = (comes_reached image outcome.way there (needs.led).run).count in
     never outcome.way there (needs.led).run (needs.led).follow needs.ranks
@@ -225,6 +229,27 @@ status_same : (status its : ℕ) (w a b c v x y z : Bool) → w ≡ v → status
 status_same status its w a b c v x y z all is are first second third =
     is ∙ (λ i. search_status (all i) (first i) (second i) (third i)) ∙ sym are
 
+-- two searches that know the same of ranks that need buffers, and of runs that go on for ever, tell the same of runs that hang if
+-- sends wait
+hanging_there : (image : ImageParts) (order : List ℕ) (told other : List Outcome) (known its : Needs) (unending endless : Bool)
+    → (b c : Bool) → SaysHanging image order told known unending b → SaysHanging image order other its endless c
+    → known ≡ its → unending ≡ endless → b ≡ true → c ≡ true
+hanging_there image order told other known its unending endless true true one two needs ends is = refl
+hanging_there image order told other known its unending endless true false one two needs ends is =
+    let l = one.2 in
+    let same : node_of (l.node).cluster (had_after none_had l.steps) ≡ l.node =
+    (λ i. record { cluster = (l.node).cluster; had = (sym (l.way).had) i }) in
+    absurd (two (sym needs ∙ one.0) (sym ends ∙ one.1) l.steps (l.node).cluster (l.way).run (l.way).follow
+    (subst (HangsIfSendsWait (by_order order)) (sym same) l.hangs))
+hanging_there image order told other known its unending endless false c one two needs ends is = absurd (cc)
+
+hanging_same : (image : ImageParts) (order : List ℕ) (told other : List Outcome) (known its : Needs) (unending endless : Bool)
+    (b c : Bool) → SaysHanging image order told known unending b → SaysHanging image order other its endless c → known ≡ its
+    → unending ≡ endless → b ≡ c
+hanging_same image order told other known its unending endless b c one two needs ends =
+    bools b c (hanging_there image order told other known its unending endless b c one two needs ends)
+    (hanging_there image order other told its known endless unending c b two one (sym needs) (sym ends))
+
 leads_there : (image : ImageParts) (order : List ℕ) (steps : List Step) (o : Option Outcome)
     → Leads image order o (Some steps) → (outcome : Outcome) × (o ≡ Some outcome) × LeadsTo image order outcome steps
 leads_there image order steps None leads = absurd leads
@@ -291,20 +316,21 @@ one_list_law = record {
         unending,
         λ needs. status_same status its (is_all ((one.listed).found).left (one.listed).needs)
             (any_end trapped_in ((one.listed).found).kept ((one.listed).found).ends)
-            (has_stuck order (one.listed).found || is_somebody (one.listed).needs) one.unending
+            ((has_stuck order (one.listed).found || is_somebody (one.listed).needs) || one.hanging) one.unending
             (is_all ((two.listed).found).left (two.listed).needs)
             (any_end trapped_in ((two.listed).found).kept ((two.listed).found).ends)
-            (has_stuck order (two.listed).found || is_somebody (two.listed).needs) two.unending
+            ((has_stuck order (two.listed).found || is_somebody (two.listed).needs) || two.hanging) two.unending
             (λ i. is_all ((whole ∙ sym all) i) (needs i)) one.status_is two.status_is
             (bools _ _
             (traps_there image order buffered copied states turns more longer text other status its right harts one whole two all)
             (traps_there image order copied buffered more longer states turns other text its status right harts two all one
             whole))
-            (λ i. bools _ _
+            (λ i. (bools _ _
             (stuck_there image order buffered copied states turns more longer text other status its right harts one whole two all)
             (stuck_there image order copied buffered more longer states turns other text its status right harts two all one
             whole) i
-            || is_somebody (needs i))
+            || is_somebody (needs i)) || hanging_same image order one.told two.told (one.listed).needs (two.listed).needs one.unending
+            two.unending one.hanging two.hanging one.hanging_is two.hanging_is needs unending i)
             unending,
       );
 }

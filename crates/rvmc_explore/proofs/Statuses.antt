@@ -12,6 +12,7 @@ use Rattle.cl_explore.specs.declared.needs.Needs.{Needs}
 use Rattle.cl_explore.specs.declared.needs.Needs.TheVariants as needs
 use Rattle.cl_moves.specs.Standing.{first_node}
 use Rattle.rvmc_explore.specs.Endless.{NeverNeeds, NeverStuck, SaysUnending}
+use Rattle.rvmc_explore.specs.Hangs.{NeverHangs, SaysHanging}
 use Rattle.rvmc_explore.specs.Outcomes.{ListsNeed}
 use Rattle.rvmc_explore.specs.StatusLaw.{StatusLaw}
 use Rattle.rvmc_explore.specs.declared.outcomes.Outcome.{Outcome}
@@ -93,15 +94,23 @@ status_at : (image : ImageParts) (order : List ℕ) (buffered : Bool) (states tu
     → (tells : Tells image order buffered states turns text status) → (status ≡ 0) ⊎ (status ≡ 8)
     → NeverStuck image order (first_node image) × (((tells.listed).found).left ≡ 0)
     × (status ≡ 0 → tells.unending ≡ false) × (status ≡ 8 → tells.unending ≡ true)
-    × (is_unknown (tells.listed).needs ≡ false) × (is_somebody (tells.listed).needs ≡ false)
+    × (is_unknown (tells.listed).needs ≡ false) × (is_somebody (tells.listed).needs ≡ false) × (tells.hanging ≡ false)
 status_at image order buffered states turns text status tells which =
     let found = (tells.listed).found in
     let known = (tells.listed).needs in
     let is = by_cases (is_all found.left known) (any_end trapped_in found.kept found.ends)
-    (has_stuck order found || is_somebody known) tells.unending status tells.status_is which in
+    ((has_stuck order found || is_somebody known) || tells.hanging) tells.unending status tells.status_is which in
     let all = all_is found.left known is.0 in
-    let none = no_company found (any_end (waits_in order) found.kept found.ends) (is_somebody known) is.1 in
-    (tells.none_stuck all.0 none, all.0, is.2, is.3, all.1, or_last (has_stuck order found) (is_somebody known) is.1)
+    let quiet = neither_of (has_stuck order found || is_somebody known) tells.hanging is.1 in
+    let none = no_company found (any_end (waits_in order) found.kept found.ends) (is_somebody known) quiet in (
+      tells.none_stuck all.0 none,
+      all.0,
+      is.2,
+      is.3,
+      all.1,
+      or_last (has_stuck order found) (is_somebody known) quiet,
+      or_last (has_stuck order found || is_somebody known) tells.hanging is.1,
+    )
 
 -- ---- ranks that need buffers
 
@@ -119,6 +128,25 @@ nobody_needs image order buffered states turns text status tells known none soug
     of needs.Nobody a b says = tells.none_need says.1 says.2
     of needs.Somebody a b says = absurd (cc)
     of needs.Unknown a b says = absurd (cc)
+
+-- nor does a run hang if sends wait, if each can come to an end
+never_hangs_by : (image : ImageParts) (order : List ℕ) (buffered : Bool) (states turns : ℕ) (text : List ℕ) (status : ℕ)
+    → (tells : Tells image order buffered states turns text status) → is_unknown (tells.listed).needs ≡ false
+    → is_somebody (tells.listed).needs ≡ false → tells.hanging ≡ false → tells.unending ≡ false → AreSought buffered image
+    → NeverHangs order (first_node image)
+never_hangs_by image order buffered states turns text status tells known none quiet ends sought =
+    of (tells.listed).needs refl known none (tells.listed).needs_are
+  where
+    says : SaysHanging image order tells.told (tells.listed).needs tells.unending false
+    says = subst (SaysHanging image order tells.told (tells.listed).needs tells.unending) quiet tells.hanging_is
+
+    of : (n : Needs) → (tells.listed).needs ≡ n → is_unknown n ≡ false → is_somebody n ≡ false
+        → SaysNeeds buffered image (tells.listed).found (ListsNeed image order tells.told) n
+        → NeverHangs order (first_node image)
+    of needs.Unsought is a b no = absurd (no sought)
+    of needs.Nobody is a b its = says is ends
+    of needs.Somebody is a b its = absurd (cc)
+    of needs.Unknown is a b its = absurd (cc)
 
 -- where some are listed, a run comes to some
 listed_needs : (image : ImageParts) (order : List ℕ) (told : List Outcome) → ListsNeed image order told
@@ -144,7 +172,7 @@ needs_told image order buffered states turns text status sought tells =
     of needs.Unknown is says =
         let found = (tells.listed).found in
         inr (inr (not_all status (is_all found.left (tells.listed).needs) (any_end trapped_in found.kept found.ends)
-        (has_stuck order found || is_somebody (tells.listed).needs) tells.unending tells.status_is
+        ((has_stuck order found || is_somebody (tells.listed).needs) || tells.hanging) tells.unending tells.status_is
         (ap (is_all found.left) is ∙ never_all (found.left == 0))))
 
 -- ---- two searches
@@ -178,7 +206,7 @@ told_all image order buffered states turns text status tells other =
     let found = (tells.listed).found in
     all_is found.left (tells.listed).needs
     (all_by status (is_all found.left (tells.listed).needs) (any_end trapped_in found.kept found.ends)
-    (has_stuck order found || is_somebody (tells.listed).needs) tells.unending tells.status_is other)
+    ((has_stuck order found || is_somebody (tells.listed).needs) || tells.hanging) tells.unending tells.status_is other)
 
 same_status : (image : ImageParts) (order : List ℕ) (buffered : Bool) (states turns more longer : ℕ) (text other : List ℕ)
     (status its : ℕ) → IsImage image → IsOrder image.harts order
@@ -202,6 +230,7 @@ status_law = record {
         ends = quiet is.1 harts;
         never_stuck = is.0;
         never_need = nobody_needs image order buffered states turns text 0 tells is.4 is.5;
+        never_hangs = never_hangs_by image order buffered states turns text 0 tells is.4 is.5 is.6 (is.2 refl);
       };
   eight = λ image order buffered states turns text tells.
       let is = status_at image order buffered states turns text 8 tells (inr refl) in

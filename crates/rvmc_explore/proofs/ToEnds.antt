@@ -1,19 +1,21 @@
 -- A record of an outcome, and that there is none.
 use Rattle.std.proofs.Common.{ℕ, Bool, ◌≡◌, ◌≤◌, ◌∙◌, zero, suc, ap, length, List, None, Option, Some, inl, inr, refl, slice_get, subst, sym}
-use Rattle.std.proofs.lemmas.Option.{slice_get_past}
+use Rattle.std.proofs.lemmas.Option.{same_Some, slice_get_past}
 use Rattle.rv_image_types.specs.Image.{IsImage}
 use Rattle.rv_image_types.specs.declared.images.ImageParts.{ImageParts}
 use Rattle.cl_machine.specs.declared.steps.Step.{Step}
 use Rattle.cl_order_laws.specs.Closed.{Node}
+use Rattle.cl_patient_laws.specs.Patient.{HangsIfSendsWait}
 use Rattle.cl_moves.specs.Standing.{IsWay, by_order, first_node}
 use Rattle.cl_explore.specs.Ends.{ExploredFrom, Findings}
 use Rattle.rvmc_explore.specs.InnerOutcomes.{IsHeard}
 use Rattle.rvmc_explore.specs.InnerRecorded.{IsInOrder, RecordsIn}
-use Rattle.rvmc_explore.specs.Outcomes.{AreTold, IsEndOutcome, IsListOf, IsNeedOutcome, IsOutcome, IsStuckBody, IsTextAt}
+use Rattle.rvmc_explore.specs.Outcomes.{AreTold, IsEndOutcome, IsHangOutcome, IsListOf, IsNeedOutcome, IsOutcome, IsStuckBody, IsTextAt}
 use Rattle.rvmc_explore.specs.Recorded.{Leads, LeadsTo, RecordsEnd, numbered}
 use Rattle.rvmc_explore.specs.Starting.{IsListFrom, RecordsEndBehind}
 use Rattle.rvmc_explore.specs.declared.outcomes.Outcome.{Outcome}
 use Rattle.rvmc_explore.proofs.EndTexts.{stands_kept}
+use Rattle.rvmc_explore.proofs.Hanging.{some_hangs}
 use Rattle.cl_explore.specs.declared.companies.Company.{Company}
 use Rattle.rvmc_starts.specs.declared.starts.Start.{Start}
 
@@ -28,7 +30,7 @@ text_of_end image order outcome is = record { state = is.state; stands = is.stan
 text_of_need : (image : ImageParts) (order : List ℕ) (outcome : Outcome) → (is : IsNeedOutcome order image outcome)
     → IsTextAt image order (is.node).cluster outcome.body.items
 text_of_need image order outcome is =
-    record { state = is.state; stands = is.stands; spelled = inr (inr (is.ranks, is.need, is.told)) }
+    record { state = is.state; stands = is.stands; spelled = inr (inr (inl (is.ranks, is.need, is.told))) }
 
 -- turns lead to where the text of an outcome is told that was heard of
 pub heard_way : (image : ImageParts) (order : List ℕ) (outcome : Outcome) → IsHeard order image outcome
@@ -50,12 +52,45 @@ module _ (image : ImageParts) (order : List ℕ) (start : Node) (found : Finding
         spelled = inr (inl (company.ranks.items, is.spelled));
       }
 
+  -- where turns lead to of an outcome at which runs hang if sends wait
+  hang_node : (outcome : Outcome) → (hang : IsHangOutcome image found outcome)
+      → (node : Node) × (slice_get explored.nodes hang.node ≡ Some node)
+  hang_node outcome hang =
+      let kept = (hang.told).is in
+      let v = (explored.are).each hang.node kept.what kept.there in (v.0, v.1)
+
+  text_of_hang : (outcome : Outcome) → (hang : IsHangOutcome image found outcome)
+      → IsTextAt image order ((hang_node outcome hang).0).cluster outcome.body.items
+  text_of_hang outcome hang =
+      let kept = (hang.told).is in
+      let node = hang_node outcome hang in
+      record {
+        state = (hang.told).state;
+        stands = stands_kept image order start found explored hang.node kept.what node.0 (hang.told).state kept.there node.1
+            kept.same;
+        spelled = inr (inr (inr (hang.set, (hang.told).spelled)));
+      }
+
+  hangs_there : IsImage image → (outcome : Outcome) → (hang : IsHangOutcome image found outcome)
+      → HangsIfSendsWait (by_order order) (hang_node outcome hang).0
+  hangs_there limits outcome hang =
+      let some = some_hangs image order start found limits explored hang.all hang.waiting hang.node hang.inside hang.hangs in
+      let node = hang_node outcome hang in
+      subst (HangsIfSendsWait (by_order order)) (same_Some some.0 node.0 (sym some.1 ∙ node.1)) some.2
+
   -- turns lead to where an outcome's text is told
   pub told_way : (outcome : Outcome) → IsOutcome order image found outcome
       → (steps : List Step) × (node : Node) × IsWay (by_order order) (first_node image) steps node
       × IsTextAt image order node.cluster outcome.body.items
   told_way outcome (inl end) = heard_way image order outcome (inl end)
-  told_way outcome (inr (inr needs)) = heard_way image order outcome (inr needs)
+  told_way outcome (inr (inr (inl needs))) = heard_way image order outcome (inr needs)
+  told_way outcome (inr (inr (inr hang))) =
+      let node = hang_node outcome hang in (
+        outcome.way,
+        node.0,
+        (hang.leads) image order explored.nodes node.0 explored.are node.1,
+        text_of_hang outcome hang,
+      )
   told_way outcome (inr (inl stuck)) =
       let company = stuck.1 in
       let kept = stuck.4.is in
@@ -80,7 +115,20 @@ module _ (image : ImageParts) (order : List ℕ) (start : Node) (found : Finding
         outcome_at = inl end.end;
         told_at = text_of_end image order outcome end;
       }
-  leads_to outcome steps limits sorted (inr (inr needs)) =
+  leads_to outcome steps right sorted (inr (inr (inr hang))) =
+      let node = hang_node outcome hang in
+      let way = (hang.leads) image order explored.nodes node.0 explored.are node.1 in
+      let its = sorted image (node.0).cluster right way.run in
+      record {
+        node = node.0;
+        turns = outcome.way;
+        way = way;
+        sorted = its.0;
+        run = its.1;
+        outcome_at = inr (inr (inr (hangs_there right outcome hang)));
+        told_at = text_of_hang outcome hang;
+      }
+  leads_to outcome steps limits sorted (inr (inr (inl needs))) =
       let its = sorted image (needs.node).cluster limits (needs.led).run in
       record {
         node = needs.node;
@@ -88,7 +136,7 @@ module _ (image : ImageParts) (order : List ℕ) (start : Node) (found : Finding
         way = needs.led;
         sorted = its.0;
         run = its.1;
-        outcome_at = inr (inr (needs.ranks, needs.need));
+        outcome_at = inr (inr (inl (needs.ranks, needs.need)));
         told_at = text_of_need image order outcome needs;
       }
   leads_to outcome steps limits sorted (inr (inl stuck)) =

@@ -1,5 +1,5 @@
 -- The text that `explore` prints of a state from which no run ends if standard sends wait for their receives.
-use Rattle.std.specs.Prelude.{ℕ, ◌≡◌, ◌-◌, false, true, if◌then◌else◌, List, [], ◌∷◌, ◌++◌, codes, length, take, Option, Some, None, slice_get}
+use Rattle.std.specs.Prelude.{ℕ, ◌≡◌, ◌-◌, false, if◌then◌else◌, List, [], ◌∷◌, ◌++◌, codes, length, take, Option, Some, None, slice_get}
 use Rattle.std.specs.List.{flat_map}
 use Rattle.rv_hart.specs.State.{State}
 use Rattle.rv_hart.specs.declared.state.Mode.{Mode}
@@ -18,9 +18,7 @@ use Rattle.rvmc_places.specs.Places.{named_address_text, place_name}
 use Rattle.rvmc_inspect.specs.Texts.{hart_head, hart_waits_text}
 use Rattle.rvmc_inspect.specs.Why.{is_live, live_ranks, rank_names}
 use Rattle.rvmc_explore.specs.Needs.{held_text}
-use Rattle.rvmc_explore.specs.Outcomes.{HasBody, LeadThere}
 use Rattle.rvmc_explore.specs.There.{IsKeptState}
-use Rattle.rvmc_explore.specs.declared.outcomes.Outcome.{Outcome}
 
 -- ---- a rank that goes on
 
@@ -95,16 +93,3 @@ pub record IsHangBody (image : ImageParts) (kept : List KeptNode) (node resting 
   pub state : ClusterState
   pub is : IsKeptState kept node state
   pub spelled : body ≡ hang_text image state resting
-
--- ---- an outcome of it
-
--- its turns lead to the node of this number, at which the ranks of the set rest, its text is that of the node, and none of these has the
--- same text
-pub record IsNewHang (image : ImageParts) (kept : List KeptNode) (node resting : ℕ) (told : List Outcome) (outcome : Outcome)
-    : Type 0 where
-  pub leads : LeadThere kept node outcome.way
-  pub spelled : IsHangBody image kept node resting outcome.body.items
-  pub uncounted : outcome.ends ≡ 0
-  pub no_need : outcome.need ≡ false
-  pub of_hang : outcome.hang ≡ true
-  pub new : HasBody told outcome.body.items → ⊥

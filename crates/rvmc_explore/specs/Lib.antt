@@ -18,3 +18,5 @@ pub mod OneList
 pub mod Starting
 pub mod SplitLaw
 pub mod Below
+pub mod Hanging
+pub mod Hangs

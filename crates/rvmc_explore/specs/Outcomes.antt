@@ -1,5 +1,5 @@
 -- The outcomes that `explore` lists: ends, ranks that are stuck while others run on, and ranks that need buffers.
-use Rattle.std.specs.Prelude.{ℕ, ◌≡◌, ◌⊎◌, List, [], Bool, false, true, length, slice_get, Some}
+use Rattle.std.specs.Prelude.{ℕ, ◌<◌, ◌≡◌, ◌⊎◌, List, [], Bool, false, true, length, slice_get, Some}
 use Rattle.std.specs.List.{count_by, list_any}
 use Rattle.std.specs.Str.{bytes_eq}
 use Rattle.rv_image_types.specs.declared.images.ImageParts.{ImageParts}
@@ -18,7 +18,9 @@ use Rattle.cl_replay.specs.declared.states.ClusterState.{ClusterState}
 use Rattle.cl_rests.specs.Needing.{IsNeed}
 use Rattle.rvmc_picture.specs.Below.{company_text}
 use Rattle.rvmc_explore.specs.Ends.{IsEndText}
+use Rattle.rvmc_explore.specs.HangTexts.{IsHangBody, hang_text}
 use Rattle.rvmc_explore.specs.Needs.{need_text}
+use Rattle.rvmc_explore.specs.Patient.{Hangs}
 use Rattle.rvmc_explore.specs.Searched.{GoesTo, IsSearched}
 use Rattle.rvmc_explore.specs.There.{IsKeptState}
 use Rattle.rvmc_explore.specs.declared.outcomes.Outcome.{Outcome}
@@ -43,13 +45,15 @@ pub record IsNeedBody (image : ImageParts) (kept : List KeptNode) (node : ℕ) (
   pub is : IsKeptState kept node state
   pub spelled : body ≡ need_text image state ranks
 
--- a text is told of this cluster: that of an end, of ranks that are stuck there, or of the most that need buffers there
+-- a text is told of this cluster: that of an end, of ranks that are stuck there, of the most that need buffers there, or of all
+-- ranks where it hangs if sends wait
 pub record IsTextAt (image : ImageParts) (order : List ℕ) (cluster : Cluster) (body : List ℕ) : Type 0 where
   pub state : ClusterState
   pub stands : ClusterStandsFor image state cluster
   pub spelled : IsEndText order image state [] body
       ⊎ (((ranks : List ℕ) × (body ≡ company_text image state ranks))
-      ⊎ ((ranks : List ℕ) × IsNeed ranks cluster × (body ≡ need_text image state ranks)))
+      ⊎ (((ranks : List ℕ) × IsNeed ranks cluster × (body ≡ need_text image state ranks))
+      ⊎ ((set : ℕ) × (body ≡ hang_text image state set))))
 
 -- the turns lead to whichever node is kept at this number
 abbrev pub LeadThere : List KeptNode → ℕ → List Step → Type 0
@@ -85,9 +89,24 @@ IsStuckOutcome image found outcome =
     × LeadThere found.kept company.node outcome.way
     × IsStuckBody image found.kept company outcome.body.items × (outcome.ends ≡ 0) × (outcome.need ≡ false)
 
+-- or of a node that was found, to which they lead, and at which runs hang if sends wait, of a search that left no state
+pub record IsHangOutcome (image : ImageParts) (found : Findings) (outcome : Outcome) : Type 0 where
+  pub node : ℕ
+  pub all : found.left ≡ 0
+  pub waiting : found.may_wait ≡ true
+  pub inside : node < length found.kept
+  pub hangs : Hangs found node
+  pub leads : LeadThere found.kept node outcome.way
+  pub set : ℕ
+  pub noted : (those : ℕ) → slice_get found.resting node ≡ Some those → set ≡ those
+  pub told : IsHangBody image found.kept node set outcome.body.items
+  pub uncounted : outcome.ends ≡ 0
+  pub no_need : outcome.need ≡ false
+
 abbrev pub IsOutcome : List ℕ → ImageParts → Findings → Outcome → Type 0
 IsOutcome order image found outcome =
-    IsEndOutcome order image outcome ⊎ (IsStuckOutcome image found outcome ⊎ IsNeedOutcome order image outcome)
+    IsEndOutcome order image outcome
+    ⊎ (IsStuckOutcome image found outcome ⊎ (IsNeedOutcome order image outcome ⊎ IsHangOutcome image found outcome))
 
 -- ---- all of them
 

@@ -9,6 +9,7 @@ use Rattle.cl_order_laws.specs.Closed.{IsEnd, Node}
 use Rattle.cl_moves.specs.Standing.{IsWay, by_order, first_node}
 use Rattle.cl_explore.specs.Below.{IsVerdictOf}
 use Rattle.cl_rests.specs.Needing.{IsNeed}
+use Rattle.cl_patient_laws.specs.Patient.{HangsIfSendsWait}
 use Rattle.rvmc_explore.specs.Outcomes.{IsListOf, IsTextAt}
 use Rattle.rvmc_explore.specs.declared.outcomes.Outcome.{Outcome}
 
@@ -17,14 +18,15 @@ abbrev pub numbered : List Outcome → ℕ → Option Outcome
 numbered told zero = None
 numbered told (suc before) = slice_get told before
 
--- nobody goes on, or some ranks are stuck, or need buffers
+-- nobody goes on, or some ranks are stuck, or need buffers, or it hangs if sends wait
 abbrev pub IsOutcomeAt : List ℕ → Node → Type 0
 IsOutcomeAt order node =
     IsEnd (by_order order) node.cluster
-    ⊎ (((ranks : List ℕ) × IsVerdictOf node.cluster (Some ranks)) ⊎ ((ranks : List ℕ) × IsNeed ranks node.cluster))
+    ⊎ (((ranks : List ℕ) × IsVerdictOf node.cluster (Some ranks)) ⊎ (((ranks : List ℕ) × IsNeed ranks node.cluster)
+    ⊎ HangsIfSendsWait (by_order order) node))
 
--- the steps are a run to a cluster at which nobody goes on, or some ranks are stuck, or need buffers, and of which the
--- outcome's text is told: those of a run by the order, as a record has them, by their stamps
+-- the steps are a run to a cluster at which nobody goes on, or some ranks are stuck, or need buffers, or that hangs if sends wait,
+-- and of which the outcome's text is told: those of a run by the order, as a record has them, by their stamps
 pub record LeadsTo (image : ImageParts) (order : List ℕ) (outcome : Outcome) (steps : List Step) : Type 0 where
   pub node : Node
   pub turns : List Step

@@ -67,7 +67,7 @@ pub record TellsFrom (image : ImageParts) (start : Start) (states turns : ℕ) (
   pub ends : AreEndsTold told part.ends
   pub unending_is : SaysUnending image start.harts (listed.behind).start (listed.found).left part.unending
   pub none_stuck : SaysNoneStuck image start.harts (listed.behind).start (listed.found).left (listed.found).companies
-  pub status_is : status ≡ findings_status start.harts listed.found needs.Unsought part.unending
+  pub status_is : status ≡ findings_status start.harts listed.found needs.Unsought false part.unending
   pub status_told : part.status ≡ status
   pub spelled : text ≡ part_text part
 

@@ -6,15 +6,18 @@ use Rattle.cl_explore.specs.Below.{IsOrder}
 use Rattle.cl_explore.specs.Needing.{AreSought}
 use Rattle.cl_moves.specs.Standing.{first_node}
 use Rattle.rvmc_explore.specs.Endless.{AllMayEnd, NeverNeeds, NeverStuck, SomeNeverEnds}
+use Rattle.rvmc_explore.specs.Hangs.{NeverHangs}
 use Rattle.rvmc_explore.specs.Outcomes.{ListsNeed}
 use Rattle.rvmc_explore.specs.Telling.{Tells}
 
--- wherever a run by the order leads, finished or not, it can still come to an end, and no ranks are stuck in it; nor do any need
--- buffers, unless standard sends were to buffer or ranks have several harts
+-- wherever a run by the order leads, finished or not, it can still come to an end, and no ranks are stuck in it. Unless standard
+-- sends were to buffer or ranks have several harts, none need buffers either, and it can still come to an end if each standard send
+-- waits from there on
 pub record IsQuiet (image : ImageParts) (order : List ℕ) (buffered : Bool) : Type 0 where
   pub ends : AllMayEnd order (first_node image)
   pub never_stuck : NeverStuck image order (first_node image)
   pub never_need : AreSought buffered image → NeverNeeds image order (first_node image)
+  pub never_hangs : AreSought buffered image → NeverHangs order (first_node image)
 
 -- some run comes to where it can't end any more; but no ranks are stuck in any, nor do any need buffers, unless sends were to
 -- buffer or ranks have several harts

@@ -14,6 +14,7 @@ use Rattle.cl_explore.specs.declared.needs.Needs.TheVariants as known
 use Rattle.rvmc_report.specs.Report.{has_trapped, newline}
 use Rattle.rvmc_explore.specs.Endless.{SaysEndsAnyway, SaysNoneNeed, SaysNoneStuck, SaysUnending}
 use Rattle.rvmc_explore.specs.Ends.{one_waits}
+use Rattle.rvmc_explore.specs.Hangs.{SaysHanging}
 use Rattle.rvmc_explore.specs.Outcomes.{AreApart, IsListOf, IsTextAt}
 use Rattle.rvmc_explore.specs.declared.outcomes.Outcome.{Outcome}
 
@@ -133,8 +134,8 @@ any_end p kept ends = list_any (λ node. holds_of p (slice_get kept node)) ends
 abbrev pub is_all : ℕ → Needs → Bool
 is_all left needs = (left == 0) && not (is_unknown needs)
 
--- 4 where not all is told, else 3 where a hart trapped at an end, else 7 where one waits for ever or ranks need buffers, else
--- 8 where some runs go on for ever, else 0
+-- 4 where not all is told, else 3 where a hart trapped at an end, else 7 where one waits for ever, ranks need buffers, or runs hang if
+-- sends wait, else 8 where some runs go on for ever, else 0
 abbrev pub search_status : Bool → Bool → Bool → Bool → ℕ
 search_status all trapped stuck unending =
     if all then (if trapped then 3 else (if stuck then 7 else (if unending then 8 else 0))) else 4
@@ -146,10 +147,10 @@ is_some_company companies = not (length companies == 0)
 abbrev pub has_stuck : List ℕ → Findings → Bool
 has_stuck order found = any_end (waits_in order) found.kept found.ends || is_some_company found.companies
 
-abbrev pub findings_status : List ℕ → Findings → Needs → Bool → ℕ
-findings_status order found needs unending =
+abbrev pub findings_status : List ℕ → Findings → Needs → Bool → Bool → ℕ
+findings_status order found needs hanging unending =
     search_status (is_all found.left needs) (any_end trapped_in found.kept found.ends)
-    (has_stuck order found || is_somebody needs) unending
+    ((has_stuck order found || is_somebody needs) || hanging) unending
 
 -- ---- the whole
 
@@ -175,4 +176,6 @@ pub record Tells (image : ImageParts) (order : List ℕ) (buffered : Bool) (stat
       ++ (unending_line unending
       ++ (needs_line listed.needs
       ++ last_line (length told) (length (listed.found).kept) (listed.found).left (listed.found).may_wait long turns)))
-  pub status_is : status ≡ findings_status order listed.found listed.needs unending
+  pub hanging : Bool
+  pub hanging_is : SaysHanging image order told listed.needs unending hanging
+  pub status_is : status ≡ findings_status order listed.found listed.needs hanging unending

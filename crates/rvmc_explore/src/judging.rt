@@ -93,9 +93,9 @@ fn is_all(left: usize, needs: Needs) -> bool
 }
 
 /// The status of a search that found this: 4 where not all is told, else 3 where a hart trapped at an end, else 7 where a hart
-/// that takes turns waits at one, some ranks are stuck, or some need buffers, else 8 where some runs go on for ever, else 0.
-pub(crate) fn search_status(found: &Exploration, order: &[u8], unending: bool) -> u8
-    ensures { result ≡ findings_status order.now (findings found.now) found.now.needs unending }
+/// that takes turns waits at one, some ranks are stuck or need buffers, or runs hang if sends wait, else 8 where some runs go on for ever, else 0.
+pub(crate) fn search_status(found: &Exploration, order: &[u8], hanging: bool, unending: bool) -> u8
+    ensures { result ≡ findings_status order.now (findings found.now) found.now.needs hanging unending }
 {
     if !is_all(found.left, found.needs) {
         return 4;
@@ -105,7 +105,8 @@ pub(crate) fn search_status(found: &Exploration, order: &[u8], unending: bool) -
     if any_trapped(nodes, ends) {
         return 3;
     }
-    if any_waits(nodes, order, ends) || found.companies.len() > 0 || is_somebody(found.needs) {
+    let stuck = any_waits(nodes, order, ends) || found.companies.len() > 0;
+    if stuck || is_somebody(found.needs) || hanging {
         return 7;
     }
     if unending { 8 } else { 0 }

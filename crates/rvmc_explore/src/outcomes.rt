@@ -28,8 +28,6 @@ pub struct Outcome {
     pub ends: usize,
     /// Whether it is of ranks that need buffers.
     pub need: bool,
-    /// Whether it is of a state from which no run ends if sends wait.
-    pub hang: bool,
 }
 
 impl Outcome {
@@ -102,7 +100,7 @@ fn is_body(outcome: &Outcome, body: &[u8]) -> bool
 }
 
 /// The place of the outcome with this text.
-pub(crate) fn place_of(told: &[Outcome], body: &[u8]) -> Option<usize>
+fn place_of(told: &[Outcome], body: &[u8]) -> Option<usize>
     ensures there { IfSome result (IsBodyAt told.now body.now) }
     ensures new { IfNone result (HasBody told.now body.now → ⊥) }
 {
@@ -116,7 +114,7 @@ pub(crate) fn place_of(told: &[Outcome], body: &[u8]) -> Option<usize>
 
 /// The outcome at the node of this number, with this text, which so many ends have, and whether it is of ranks that need
 /// buffers.
-pub(crate) fn outcome_of(
+fn outcome_of(
     alloc: Global,
     nodes: &[KeptNode],
     node: usize,
@@ -133,7 +131,6 @@ pub(crate) fn outcome_of(
         body,
         ends,
         need,
-        hang: false,
     })
 }
 
@@ -208,7 +205,7 @@ fn add_end(
 }
 
 /// Adds what is told of ranks that are stuck in the node of this number, unless the same text is told already.
-fn add_stuck(
+pub(crate) fn add_stuck(
     alloc: Global,
     told: &mut Vec<Outcome>,
     nodes: &[KeptNode],

@@ -14,6 +14,7 @@ ghost use Rattle.rvmc_explore.specs.Telling.{AddsOutcomes, IsBegun, Tells};
 use crate::asked::Asked;
 use crate::closing::{last_line, needs_line};
 use crate::counting::put_counts;
+use crate::hangs::tell_hang;
 use crate::hearing::Sends;
 use crate::judging::search_status;
 use crate::outcomes::{Outcome, tell};
@@ -98,18 +99,19 @@ fn rest_of(
     // ghost: brings into scope that the parts are those of an image; no effect at run time
     let _parts = image.parts();
     let before = heard.len();
-    let told = tell(alloc, image, asked.order, found, heard)?;
+    let mut told = tell(alloc, image, asked.order, found, heard)?;
+    let unending = is_unending(alloc, found)?;
+    let hanging = tell_hang(alloc, image, found, &mut told, unending)?;
     let mut text = Vec::new(alloc);
     put_told(alloc, &mut text, image, told.as_slice(), before)?;
     put_counts(alloc, &mut text, told.as_slice())?;
-    let unending = is_unending(alloc, found)?;
     let line = unending_line(alloc, unending)?;
     text.extend_from_slice(line.as_bytes())?;
     let unknown = needs_line(alloc, found.needs)?;
     text.extend_from_slice(unknown.as_bytes())?;
     let last = last_line(alloc, found, told.len(), asked.turns)?;
     text.extend_from_slice(last.as_bytes())?;
-    let status = search_status(found, asked.order, unending);
+    let status = search_status(found, asked.order, hanging, unending);
     Ok(Told { text, status })
 }
 

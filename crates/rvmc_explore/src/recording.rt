@@ -12,8 +12,10 @@ ghost use Rattle.rvmc_explore.specs.Searched.{IsSearched};
 ghost use Rattle.cl_lines.specs.Telling.{TellsProgress};
 
 use crate::asked::Asked;
+use crate::hangs::tell_hang;
 use crate::hearing::{Hearer, Sends};
 use crate::outcomes::{Outcome, tell};
+use crate::unending::is_unending;
 use cl_explore::{Course, Exploration, explore, in_order};
 use cl_machine::Step;
 use cl_moves::MoveFault;
@@ -92,6 +94,8 @@ pub fn recorded<E: Write>(
     let _parts = image.parts();
     let mut hearer: Hearer<Brand> = Hearer::new(alloc, asked.buffered);
     let found = search_hearing::<Brand, E>(alloc, image, asked, &mut hearer, err)?;
-    let told = tell(alloc, image, asked.order, &found, hearer.told)?;
+    let mut told = tell(alloc, image, asked.order, &found, hearer.told)?;
+    let unending = is_unending(alloc, &found)?;
+    let _hanging = tell_hang(alloc, image, &found, &mut told, unending)?;
     Ok(record_in(alloc, told.as_slice(), number)?)
 }

@@ -169,7 +169,7 @@ pub fn explored_from<E: Write>(
     let told = tell(alloc, image, order, &found, hearer.told)?;
     let ends = ends_told(alloc, image, told.as_slice())?;
     let unending = is_unending(alloc, &found)?;
-    let status = search_status(&found, order, unending);
+    let status = search_status(&found, order, false, unending);
     let part = Part {
         number: start.number,
         count: start.count,

@@ -3,6 +3,7 @@
 ghost use Rattle.std.specs.Prelude.{◌≡◌, ◌⊎◌, ◌<◌, ℕ, List, IfOk, IsFalse, IsTrue, Some, false, length, slice_get, string_bytes, true};
 ghost use Rattle.cl_explore.specs.Ends.{findings};
 ghost use Rattle.rvmc_explore.specs.Endless.{AreComplete, SaysUnendingOf};
+ghost use Rattle.rvmc_explore.specs.Hanging.{EachGoes};
 ghost use Rattle.rvmc_explore.specs.Marks.{AreMarkedFrom, HaveStayed, IsMarkedBefore, IsMarkedIfThere, unmarked};
 ghost use Rattle.rvmc_explore.specs.Searched.{AreSound};
 ghost use Rattle.rvmc_explore.specs.Telling.{unending_line};
@@ -113,7 +114,8 @@ fn has_unmarked(marks: &[bool]) -> bool
 /// Whether some node leads to no end: from there a run goes on for ever, however it goes. False where not all moves were
 /// made, since then it isn't known. The only error is want of memory.
 pub(crate) fn is_unending(alloc: Global, found: &Exploration) -> Result<bool, AllocError>
-    ensures { IfOk result (SaysUnendingOf (findings found.now)) }
+    ensures says { IfOk result (SaysUnendingOf (findings found.now)) }
+    ensures each { IfOk result (λ unending. unending ≡ false → found.now.left ≡ 0 → EachGoes (findings found.now)) }
 {
     if found.left > 0 {
         return Ok(false);

@@ -5,6 +5,8 @@ use Rattle.cl_moves.specs.Standing.{first_node}
 use Rattle.rvmc_explore.specs.Telling.{AddsOutcomes, ends_lines, last_line, needs_line, unending_line}
 use Rattle.rvmc_explore.proofs.Endless.{says_ends_anyway, says_none_need, says_none_stuck}
 use Rattle.rvmc_explore.proofs.Heard.{all_behind}
+use Rattle.rvmc_explore.proofs.Hung.{hung, hung_begins, hung_needs, says_hanging, whole_by}
+use Rattle.rvmc_explore.proofs.Patience.{lead_inside}
 use Rattle.rvmc_explore.proofs.Listed.{within}
 use Rattle.rvmc_explore.proofs.Needed.{begun_listed, says_on}
 use Rattle.rvmc_explore.specs.Outcomes.{ListsNeed}
@@ -18,13 +20,26 @@ tell-requires-clause-within c =
     within c.args.image.now c.args.asked.now.order.now (first_node c.args.image.now) (findings c.args.found.now)
     c.parts-parts.ensures.limits (c.requires.searched).explored
 
+pub tell_hang-requires : goal.tell_hang-requires
+tell_hang-requires c =
+    lead_inside c.args.image.now c.args.asked.now.order.now (first_node c.args.image.now) (findings c.args.found.now)
+    (c.requires.searched).explored
+
 pub returns : goal.returns
 returns c = λ before lines.
     let image = c.args.image.now in
     let order = c.args.asked.now.order.now in
     let found = c.args.found.now in
     let heard = c.args.heard in
-    let told = c.in_ok-told.told.items in
+    let first_told = c.in_ok-told.told.items in
+    let told = c.tell_hang.new.told.items in
+    let whole = whole_by c.args.asked.now.buffered image (findings found) (ListsNeed image order heard.items) found.needs
+    c.requires.needs in
+    let ended = c.in_ok-unending.unending in
+    let hangs = c.in_ok-hanging.hanging in
+    let tells = c.in_ok-hanging.ensures in
+    let begins = hung_begins order image (findings found) found.needs ended whole heard.items first_told told hangs
+    c.in_ok-told.ensures.begins tells in
     let body = c.put_told.new.text.items in
     let counts = ends_lines 1 told in
     let line = unending_line c.in_ok-unending.unending in
@@ -54,22 +69,26 @@ returns c = λ before lines.
       listed = record {
         found = findings found;
         searched = c.requires.searched;
-        are = c.in_ok-told.ensures.told;
-        no_need = λ copied. c.in_ok-told.ensures.needs ∙ c.requires.no_need copied;
+        are = hung order image (findings found) found.needs ended whole first_told told hangs c.in_ok-told.ensures.told tells;
+        no_need = λ copied. hung_needs order image (findings found) found.needs ended whole first_told told hangs tells
+            ∙ c.in_ok-told.ensures.needs ∙ c.requires.no_need copied;
         needs = found.needs;
         needs_are = says_on c.args.asked.now.buffered image (findings found) (ListsNeed image order heard.items)
             (ListsNeed image order told) found.needs
-            (λ sought listed. begun_listed image order heard.items told c.in_ok-told.ensures.begins listed)
+            (λ sought listed. begun_listed image order heard.items told begins listed)
             c.requires.needs;
       };
       long = found.long;
       unending = c.in_ok-unending.unending;
-      unending_is = c.in_ok-unending.ensures image order (first_node image) ([], refl) explored;
+      unending_is = c.in_ok-unending.ensures.says image order (first_node image) ([], refl) explored;
       none_stuck = says_none_stuck image order (first_node image) (findings found) c.parts-parts.ensures.limits explored;
       none_need = says_none_need image order (first_node image) (findings found) c.parts-parts.ensures.limits explored;
       ends_anyway = says_ends_anyway image order (findings found) c.parts-parts.ensures.limits explored;
       body = before ++ body;
-      lines = all_behind heard.items told c.in_ok-told.ensures.begins before body lines those;
+      lines = all_behind heard.items told begins before body lines those;
       spelled = ap (λ (text : List ℕ). before ++ text) whole ∙ sym (append_assoc before body (counts ++ (line ++ (unknown ++ last))));
+      hanging = hangs;
+      hanging_is = says_hanging order image (findings found) found.needs ended whole first_told told hangs
+          c.parts-parts.ensures.limits explored c.in_ok-unending.ensures.each tells;
       status_is = search rules;
     }

@@ -71,14 +71,14 @@ returns-clause-told g c =
       };
       ends = subst (AreEndsTold told) (sym c.from_vec-2.ensures)
           (subst (λ os. AreEndsTold os c.in_ok-ends.ends.items) c.as_slice.ensures.value c.in_ok-ends.ensures);
-      unending_is = c.in_ok-unending.ensures c.args.image.now start.harts behind.start
+      unending_is = c.in_ok-unending.ensures.says c.args.image.now start.harts behind.start
           (behind.steps, ((behind.ordered).way).run) behind.explored;
       none_stuck = says_none_stuck c.args.image.now start.harts behind.start (findings found)
           c.parts-parts.ensures.limits behind.explored;
       status_is = c.search_status-status.ensures
-          ∙ (ap (λ order. findings_status order (findings found) found.needs c.in_ok-unending.unending)
+          ∙ (ap (λ order. findings_status order (findings found) found.needs false c.in_ok-unending.unending)
           c.as_slice-order.ensures
-          ∙ ap (λ known. findings_status start.harts (findings found) known c.in_ok-unending.unending)
+          ∙ ap (λ known. findings_status start.harts (findings found) known false c.in_ok-unending.unending)
           c.in_ok-found.ensures.unsought);
       status_told = refl;
       spelled = c.in_ok-put_part.ensures ∙ ap (λ (old : List ℕ). old ++ part_text part) c.new-text.ensures.items;

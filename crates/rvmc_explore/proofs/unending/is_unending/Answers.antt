@@ -6,8 +6,8 @@ use Rattle.rvmc_explore.specs.Searched.{AreSound}
 use Rattle.rvmc_explore.proofs.Endless.{says_unending}
 use Rattle.rvmc_explore.proofs.unending.is_unending.Goals as goal
 
-pub returns : goal.returns
-returns c =
+pub returns-clause-says : goal.returns-clause-says
+returns-clause-says c =
     let found = c.args.found.now in
     let marks = c.in_ok-marks.marks.items in
     let lent = c.as_slice.ensures.value in
@@ -24,3 +24,17 @@ returns c =
     c.has_unmarked.ensures.some)
     (subst (λ (ms : List Bool). c.has_unmarked.result ≡ false → (i : ℕ) → i < length ms → slice_get ms i ≡ Some true) lent
     c.has_unmarked.ensures.none)
+
+pub returns-clause-each : goal.returns-clause-each
+returns-clause-each c = λ ended all i low.
+    let found = c.args.found.now in
+    let marks = c.in_ok-marks.marks.items in
+    let many : length marks ≡ length found.nodes.items = c.in_ok-marks.ensures.many ∙ (c.len.ensures ∙ found.nodes.ok.0) in
+    let sound : AreSound found.leads.items found.ends.items marks =
+    subst (λ (es : List ℕ). AreSound found.leads.items es marks) c.as_slice-ends.ensures.value
+    (subst (λ (ls : List Lead). AreSound ls c.as_slice-ends.result.now marks) c.as_slice-leads.ensures.value
+    c.in_ok-marks.ensures.sound) in
+    let each : (i : ℕ) → i < length marks → slice_get marks i ≡ Some true =
+    subst (λ (ms : List Bool). c.has_unmarked.result ≡ false → (i : ℕ) → i < length ms → slice_get ms i ≡ Some true)
+    c.as_slice.ensures.value c.has_unmarked.ensures.none ended in
+    sound i (each i (omega (arith, low, many)))
