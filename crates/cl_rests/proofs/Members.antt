@@ -13,7 +13,9 @@ use Rattle.cl_rests.specs.Sets.{in_set}
 
 both : (t : Bool) (x y : ℕ) → x < 2 → y < 2 → (t && (min x y == 1)) ≡ ((t && (x == 1)) && (t && (y == 1)))
 both false x y low less = refl
-both true zero y low less = refl
+both true zero zero low less = refl
+both true zero (suc zero) low less = refl
+both true zero (suc (suc y)) low less = absurd (omega (arith, less))
 both true (suc zero) zero low less = refl
 both true (suc zero) (suc zero) low less = refl
 both true (suc zero) (suc (suc y)) low less = absurd (omega (arith, less))
