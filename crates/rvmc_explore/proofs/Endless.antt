@@ -1,6 +1,6 @@
 -- What the findings of a search say of runs of any length.
 use Rattle.std.proofs.Common.{ℕ, zero, suc, ◌≡◌, ◌<◌, ◌==◌, ◌⊎◌, ◌∙◌, List, [], ◌∷◌, length, map, Bool, true, false, IsTrue, Some, slice_get, inl, inr, refl, sym, subst, ap, arith, get_or}
-use Rattle.std.specs.Prelude.{◌%◌, ◌&&◌, ◌||◌, if◌then◌else◌, not}
+use Rattle.std.specs.Prelude.{◌%◌, ◌&&◌, ◌||◌, not}
 use Rattle.std.specs.List.{list_any}
 use Rattle.std.proofs.lemmas.Bool.{and_from, eq-eqb, eqb-true, or_cases}
 use Rattle.std.proofs.lemmas.List.Elements.{All-get_or}
@@ -42,7 +42,7 @@ use Rattle.cl_explore.specs.declared.leads.Lead.{Lead}
 use Rattle.cl_explore.proofs.Covers.{lead_of}
 use Rattle.cl_explore.proofs.Keeping.{node_found}
 use Rattle.cl_explore.proofs.Lists.{at_inside}
-use Rattle.rvmc_explore.specs.Endless.{AllMayEnd, AreComplete, NeverNeeds, NeverStuck, SaysEndsAnyway, SaysNoneNeed, SaysNoneStuck, SaysUnending, SaysUnendingOf, SomeNeverEnds}
+use Rattle.rvmc_explore.specs.Endless.{AllMayEnd, AreComplete, NeverNeeds, NeverStuck, SaysEndsAnyway, SaysNoneNeed, SaysNoneStuck, SaysUnendingOf, SomeNeverEnds}
 use Rattle.rvmc_explore.specs.Searched.{AreSound, GoesIn}
 
 -- ---- moves as edges

@@ -1,5 +1,5 @@
 -- What a status says of all runs, and that two searches have the same.
-use Rattle.std.specs.Prelude.{ℕ, ◌≡◌, ◌<◌, ◌==◌, ◌&&◌, ◌||◌, ◌⊎◌, List, Bool, false, true, if◌then◌else◌, length, not}
+use Rattle.std.specs.Prelude.{ℕ, ◌≡◌, ◌==◌, ◌&&◌, ◌||◌, ◌⊎◌, List, Bool, false, true, if◌then◌else◌, length, not}
 use Rattle.std.proofs.Common.{refl, sym, ◌∙◌, ap, arith, inl, inr, subst}
 use Rattle.std.proofs.lemmas.Bool.{eqb-true}
 use Rattle.rv_image_types.specs.Image.{IsImage}

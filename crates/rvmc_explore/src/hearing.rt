@@ -1,6 +1,6 @@
 //! Ends, and ranks that need buffers, that are heard of while a search goes on.
 
-ghost use Rattle.std.specs.Prelude.{◌≡◌, [], Bool, false, true};
+ghost use Rattle.std.specs.Prelude.{◌≡◌, [], Bool, IfOk, false, true};
 ghost use Rattle.cl_explore.specs.Listening.{IsEndNode, IsNeedNode};
 ghost use Rattle.rvmc_explore.specs.InnerOutcomes.{AreHeard};
 ghost use Rattle.rvmc_explore.specs.Outcomes.{ListsNeed, any_need};

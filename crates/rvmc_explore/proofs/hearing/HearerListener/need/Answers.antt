@@ -1,6 +1,6 @@
-use Rattle.std.proofs.Common.{subst}
+use Rattle.std.proofs.Common.{subst, sym, true, false, ◌≡◌, ◌∙◌}
 use Rattle.rvmc_explore.specs.InnerOutcomes.{IsNew}
-use Rattle.rvmc_explore.specs.Outcomes.{IsNeedOutcome}
+use Rattle.rvmc_explore.specs.Outcomes.{IsNeedOutcome, ListsNeed}
 use Rattle.rvmc_explore.proofs.Needed.{now_listed, stays_listed}
 use Rattle.rvmc_explore.proofs.Heard.{heard_more, need_inside, none_copied}
 use Rattle.rvmc_explore.proofs.hearing.HearerListener.need.Goals as goal
@@ -8,6 +8,25 @@ use Rattle.rvmc_explore.proofs.hearing.HearerListener.need.Goals as goal
 pub new_need-requires : goal.new_need-requires
 new_need-requires g c =
     need_inside c.args.image.now c.args._order.now c.args.nodes.now c.args.node c.args.ranks.now c.requires.need
+
+-- nobody is told of them, where each send copies its message
+pub returns-then-self : goal.returns-then-self
+returns-then-self g c = record {
+  holds = c.requires.holds;
+  told = λ waits.
+      let no : true ≡ false = sym c.if-self.true ∙ ((c.requires.holds).0 ∙ waits) in absurd (cc);
+  still = λ was. was;
+}
+
+-- their text is told
+pub returns-in_default : goal.returns-in_default
+returns-in_default g c = record {
+  holds = c.requires.holds;
+  told = λ waits.
+      subst (λ os. ListsNeed c.args.image.now c.args._order.now os) c.as_slice.ensures.value
+      (rw c.in_default.is at (c.in_ok-outcome.ensures c.args._order.now c.requires.need));
+  still = λ was. was;
+}
 
 pub returns : goal.returns
 returns g c =

@@ -1,8 +1,8 @@
-use Rattle.std.proofs.Common.{[], ℕ, List, length, subst, true, ◌+◌, ◌≡◌}
+use Rattle.std.proofs.Common.{[], ℕ, List, length, subst, true, ◌+◌, ◌≡◌, sym, false, ◌∙◌}
 use Rattle.std.specs.Io.KnownBytes.{Appends}
 use Rattle.rvmc_explore.specs.InnerOutcomes.{IsNew}
 use Rattle.rvmc_explore.specs.Telling.{AddsOutcome}
-use Rattle.rvmc_explore.specs.Outcomes.{IsNeedOutcome}
+use Rattle.rvmc_explore.specs.Outcomes.{IsNeedOutcome, ListsNeed}
 use Rattle.rvmc_explore.proofs.Needed.{now_listed, stays_listed}
 use Rattle.rvmc_explore.proofs.Heard.{heard_more, need_inside, none_copied, one_told_more}
 use Rattle.rvmc_explore.proofs.teller.TellerListener.need.Goals as goal
@@ -10,6 +10,25 @@ use Rattle.rvmc_explore.proofs.teller.TellerListener.need.Goals as goal
 pub new_need-requires : goal.new_need-requires
 new_need-requires g c =
     need_inside c.args.image.now c.args._order.now c.args.nodes.now c.args.node c.args.ranks.now c.requires.need
+
+-- nobody is told of them, where each send copies its message
+pub returns-then-self : goal.returns-then-self
+returns-then-self g c = record {
+  holds = c.requires.holds;
+  told = λ waits.
+      let no : true ≡ false = sym c.if-self.true ∙ ((c.requires.holds).1 ∙ waits) in absurd (cc);
+  still = λ was. was;
+}
+
+-- their text is told
+pub returns-in_default : goal.returns-in_default
+returns-in_default g c = record {
+  holds = c.requires.holds;
+  told = λ waits.
+      subst (λ os. ListsNeed c.args.image.now c.args._order.now os) c.as_slice.ensures.value
+      (rw c.in_default.is at (c.in_ok-outcome.ensures c.args._order.now c.requires.need));
+  still = λ was. was;
+}
 
 pub returns : goal.returns
 returns g c =
