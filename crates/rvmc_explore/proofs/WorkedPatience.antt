@@ -7,8 +7,8 @@ use Rattle.cl_rests.specs.Sets.{in_set}
 use Rattle.cl_explore.specs.Covering.{HasLead, HasLeadBy}
 use Rattle.cl_explore.specs.Ends.{Findings}
 use Rattle.cl_explore.specs.declared.leads.Lead.{Lead}
-use Rattle.rvmc_explore.specs.Patient.{Hangs, IsPatientlyLed, PatientlyGoesIn, PatientlyGoesTo, is_patient, rests_at, rests_in}
-use Rattle.rvmc_explore.specs.Searched.{GoesIn, GoesTo}
+use Rattle.rvmc_explore.specs.Patient.{IsPatientlyLed, PatientlyGoesIn, PatientlyGoesTo, is_patient, rests_in}
+use Rattle.rvmc_explore.specs.Searched.{GoesIn}
 use Rattle.rvmc_explore.specs.WorkedPatient.{IsGraph, WorkedPatient, moved, poll_leads, poll_resting, twin_leads, twin_resting}
 
 -- ---- nodes that no such move leaves

@@ -1,4 +1,4 @@
-use Rattle.std.proofs.Common.{List, ℕ, ◌∙◌, refl, subst, sym}
+use Rattle.std.proofs.Common.{◌∙◌, refl, subst, sym}
 use Rattle.rvmc_explore.specs.HangTexts.{IsHangBody}
 use Rattle.rvmc_explore.specs.Outcomes.{HasBody}
 use Rattle.rvmc_explore.proofs.Places.{has_none}
