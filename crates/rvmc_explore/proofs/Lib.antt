@@ -2,6 +2,7 @@ pub mod Listed
 pub mod Marked
 pub mod Endless
 pub mod Patience
+pub mod WorkedPatience
 pub mod EndTexts
 pub mod OneList
 pub mod ToEnds

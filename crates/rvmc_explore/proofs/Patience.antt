@@ -1,5 +1,5 @@
 -- Which nodes lead to an end by moves of ranks that don't rest.
-use Rattle.std.specs.Prelude.{ℕ, zero, suc, ◌<◌, ◌≡◌, ◌⊎◌, ◌↔◌, List, [], ◌∷◌, cond, filter, length, not, slice_get, Bool, true, false, Option, Some, None}
+use Rattle.std.specs.Prelude.{ℕ, zero, suc, ◌<◌, ◌≡◌, ◌⊎◌, List, [], ◌∷◌, cond, filter, length, not, slice_get, Bool, true, false, Option, Some, None}
 use Rattle.std.proofs.Common.{refl, sym, ap, ◌∙◌, subst, arith, inl, inr}
 use Rattle.std.proofs.lemmas.Option.{same_Some, slice_get_within}
 use Rattle.cl_machine.proofs.Lists.{filter-keeps, filter-skips}
@@ -9,8 +9,8 @@ use Rattle.cl_explore.specs.Covering.{HasLead, HasLeadBy}
 use Rattle.cl_explore.specs.Ends.{ExploredFrom, Findings}
 use Rattle.cl_explore.specs.declared.leads.Lead.{Lead}
 use Rattle.rvmc_explore.specs.Endless.{AreComplete}
-use Rattle.rvmc_explore.specs.Patient.{ArePatient, Hangs, LeadInside, PatientlyGoesIn, PatientlyGoesTo, TellsHanging, TellsMarkedAlone, is_patient, rests_at, rests_in}
-use Rattle.rvmc_explore.specs.Searched.{AreSound, GoesIn, GoesTo}
+use Rattle.rvmc_explore.specs.Patient.{ArePatient, LeadInside, PatientlyGoesIn, TellsHanging, TellsMarkedAlone, is_patient, rests_in}
+use Rattle.rvmc_explore.specs.Searched.{AreSound, GoesIn}
 
 -- ---- moves that are left out
 

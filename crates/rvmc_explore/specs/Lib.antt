@@ -4,6 +4,7 @@ pub mod Searched
 pub mod Marks
 pub mod Endless
 pub mod Patient
+pub mod WorkedPatient
 pub mod Outcomes
 pub mod HangTexts
 pub mod InnerOutcomes

@@ -3,6 +3,7 @@
 ghost use Rattle.rvmc_explore.specs.OneList.{OneListLaw};
 ghost use Rattle.rvmc_explore.specs.SplitLaw.{SplitLaw};
 ghost use Rattle.rvmc_explore.specs.StatusLaw.{StatusLaw};
+ghost use Rattle.rvmc_explore.specs.WorkedPatient.{WorkedPatient};
 
 /// Where each start of a split was told whole, each run that follows the order of harts and ends where nobody goes on ends
 /// in a cluster that is alike an end that was told of one of the starts.
@@ -23,4 +24,9 @@ pub fn status_law()
 /// know the same of ranks that need buffers; and the record of a number leads to its text.
 pub fn one_list_law()
     ensures { OneListLaw }
+{}
+
+/// Rows of nodes that hang if standard sends wait, and of nodes that don't.
+pub fn patient_rows()
+    ensures { WorkedPatient }
 {}
