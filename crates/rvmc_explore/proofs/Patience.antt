@@ -9,7 +9,8 @@ use Rattle.cl_explore.specs.Covering.{HasLead, HasLeadBy}
 use Rattle.cl_explore.specs.Ends.{ExploredFrom, Findings}
 use Rattle.cl_explore.specs.declared.leads.Lead.{Lead}
 use Rattle.rvmc_explore.specs.Endless.{AreComplete}
-use Rattle.rvmc_explore.specs.Patient.{ArePatient, LeadInside, PatientlyGoesIn, TellsHanging, TellsMarkedAlone, is_patient, rests_in}
+use Rattle.rvmc_explore.specs.InnerPatient.{ArePatient, LeadInside, TellsHanging, TellsMarkedAlone, is_patient}
+use Rattle.rvmc_explore.specs.Patient.{PatientlyGoesIn, noted_at}
 use Rattle.rvmc_explore.specs.Searched.{AreSound, GoesIn}
 
 -- ---- moves that are left out
@@ -55,19 +56,19 @@ pub are_patient : (found : Findings) (leads : List Lead) → leads ≡ filter (i
 are_patient found leads same = subst (ArePatient found) (sym same) (λ r i j. (
   λ led.
       let w = was_there (is_patient found.resting) found.leads led.0 led.1 led.2 in
-      let first : rests_in found.resting led.1.from led.1.rank ≡ false =
-      off (rests_in found.resting led.1.from led.1.rank) w.2 in
-      let there : rests_in found.resting i led.1.rank ≡ false =
-      subst (λ n. rests_in found.resting n led.1.rank ≡ false) led.4 first in (
+      let first : noted_at found.resting led.1.from led.1.rank ≡ false =
+      off (noted_at found.resting led.1.from led.1.rank) w.2 in
+      let there : noted_at found.resting i led.1.rank ≡ false =
+      subst (λ n. noted_at found.resting n led.1.rank ≡ false) led.4 first in (
         (w.0, led.1, w.1, led.3, led.4, led.5),
-        subst (λ n. rests_in found.resting i n ≡ false) led.3 there,
+        subst (λ n. noted_at found.resting i n ≡ false) led.3 there,
       ),
   λ both.
       let led = both.0 in
-      let there : rests_in found.resting i led.1.rank ≡ false =
-      subst (λ n. rests_in found.resting i n ≡ false) (sym led.3) both.1 in
-      let first : rests_in found.resting led.1.from led.1.rank ≡ false =
-      subst (λ n. rests_in found.resting n led.1.rank ≡ false) (sym led.4) there in
+      let there : noted_at found.resting i led.1.rank ≡ false =
+      subst (λ n. noted_at found.resting i n ≡ false) (sym led.3) both.1 in
+      let first : noted_at found.resting led.1.from led.1.rank ≡ false =
+      subst (λ n. noted_at found.resting n led.1.rank ≡ false) (sym led.4) there in
       let w = still_there (is_patient found.resting) found.leads led.0 led.1 led.2 (ap not first) in
       (w.0, led.1, w.1, led.3, led.4, led.5),
 ))

@@ -7,7 +7,8 @@ use Rattle.cl_rests.specs.Sets.{in_set}
 use Rattle.cl_explore.specs.Covering.{HasLead, HasLeadBy}
 use Rattle.cl_explore.specs.Ends.{Findings}
 use Rattle.cl_explore.specs.declared.leads.Lead.{Lead}
-use Rattle.rvmc_explore.specs.Patient.{IsPatientlyLed, PatientlyGoesIn, PatientlyGoesTo, is_patient, rests_in}
+use Rattle.rvmc_explore.specs.InnerPatient.{is_patient}
+use Rattle.rvmc_explore.specs.Patient.{IsPatientlyLed, PatientlyGoesIn, PatientlyGoesTo, noted_at}
 use Rattle.rvmc_explore.specs.Searched.{GoesIn}
 use Rattle.rvmc_explore.specs.WorkedPatient.{IsGraph, WorkedPatient, moved, poll_leads, poll_resting, twin_leads, twin_resting}
 
@@ -44,10 +45,10 @@ trapped found inside each none (suc n) i is goes =
     let by = led.1 in
     let lead = by.1 in
     let here : inside lead.from ≡ true = subst (λ k. inside k ≡ true) (sym by.4) is in
-    let at : rests_in found.resting lead.from led.0 ≡ false =
-    subst (λ k. rests_in found.resting k led.0 ≡ false) (sym by.4) led.2 in
-    let awake : rests_in found.resting lead.from lead.rank ≡ false =
-    subst (λ k. rests_in found.resting lead.from k ≡ false) (sym by.3) at in
+    let at : noted_at found.resting lead.from led.0 ≡ false =
+    subst (λ k. noted_at found.resting k led.0 ≡ false) (sym by.4) led.2 in
+    let awake : noted_at found.resting lead.from lead.rank ≡ false =
+    subst (λ k. noted_at found.resting lead.from k ≡ false) (sym by.3) at in
     let there : inside lead.to ≡ true =
     leads_inside (inside lead.from) (is_patient found.resting lead) (inside lead.to)
     (all_at (stays found.resting inside) found.leads by.0 lead each by.2) here (ap not awake) in
@@ -59,11 +60,11 @@ module _ (found : Findings) (leads : List Lead) (resting : List ℕ) (graph : Is
   has : (i j : ℕ) → HasLead leads i j → HasLead found.leads i j
   has i j led = subst (λ (ls : List Lead). HasLead ls i j) (sym graph.leads_are) led
 
-  led_by : (r i j : ℕ) → HasLeadBy leads r i j → rests_in resting i r ≡ false → IsPatientlyLed found i j
+  led_by : (r i j : ℕ) → HasLeadBy leads r i j → noted_at resting i r ≡ false → IsPatientlyLed found i j
   led_by r i j led awake = (
     r,
     subst (λ (ls : List Lead). HasLeadBy ls r i j) (sym graph.leads_are) led,
-    subst (λ (sets : List ℕ). rests_in sets i r ≡ false) (sym graph.resting_are) awake,
+    subst (λ (sets : List ℕ). noted_at sets i r ≡ false) (sym graph.resting_are) awake,
   )
 
   at_end : (k : ℕ) × (slice_get found.ends k ≡ Some 4)

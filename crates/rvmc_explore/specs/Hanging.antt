@@ -6,7 +6,8 @@ use Rattle.cl_explore.specs.declared.needs.Needs.{Needs}
 use Rattle.cl_explore.specs.declared.needs.Needs.TheVariants as needs
 use Rattle.rvmc_explore.specs.HangTexts.{IsHangBody}
 use Rattle.rvmc_explore.specs.InnerOutcomes.{AddsStuck}
-use Rattle.rvmc_explore.specs.Patient.{Hangs, TellsHanging}
+use Rattle.rvmc_explore.specs.InnerPatient.{TellsHanging}
+use Rattle.rvmc_explore.specs.Patient.{Hangs}
 use Rattle.rvmc_explore.specs.Searched.{GoesTo}
 use Rattle.rvmc_explore.specs.declared.outcomes.Outcome.{Outcome}
 

@@ -21,3 +21,4 @@ pub mod SplitLaw
 pub mod Below
 pub mod Hanging
 pub mod Hangs
+pub mod InnerPatient

@@ -3,7 +3,7 @@
 ghost use Rattle.std.specs.Prelude.{◌≡◌, ℕ, IfOk, Some, slice_get};
 ghost use Rattle.cl_explore.specs.Ends.{findings};
 ghost use Rattle.rvmc_explore.specs.Hanging.{TellsHang, TellsHangingIn};
-ghost use Rattle.rvmc_explore.specs.Patient.{LeadInside};
+ghost use Rattle.rvmc_explore.specs.InnerPatient.{LeadInside};
 
 use crate::hang_texts::hang_body;
 use crate::outcomes::{Outcome, add_stuck};

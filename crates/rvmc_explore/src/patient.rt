@@ -2,7 +2,8 @@
 
 ghost use Rattle.std.specs.Prelude.{◌≡◌, ◌<◌, ℕ, IfNone, IfOk, IfSome, IsFalse, IsTrue, Some, filter, length, slice_get, true};
 ghost use Rattle.cl_explore.specs.Ends.{findings};
-ghost use Rattle.rvmc_explore.specs.Patient.{ArePatient, IsMarkedAlone, LeadInside, TellsHanging, TellsMarkedAlone, is_patient, rests_in};
+ghost use Rattle.rvmc_explore.specs.InnerPatient.{ArePatient, IsMarkedAlone, LeadInside, TellsHanging, TellsMarkedAlone, is_patient};
+ghost use Rattle.rvmc_explore.specs.Patient.{noted_at};
 
 use crate::unending::{is_marked, leading_to, mark};
 use cl_explore::{Exploration, Lead};
@@ -11,7 +12,7 @@ use std::alloc::{AllocError, Global};
 
 /// Whether the rank rests at the node of this number, as far as that was noted.
 fn rests_in(resting: &[RankSet], node: usize, rank: u8) -> bool
-    ensures { result ≡ rests_in resting.now node rank }
+    ensures { result ≡ noted_at resting.now node rank }
 {
     match resting.get(node) {
         None => false,

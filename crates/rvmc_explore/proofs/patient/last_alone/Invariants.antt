@@ -1,4 +1,4 @@
-use Rattle.rvmc_explore.specs.Patient.{IsMarkedAlone}
+use Rattle.rvmc_explore.specs.InnerPatient.{IsMarkedAlone}
 use Rattle.rvmc_explore.proofs.patient.last_alone.Given as goal
 
 abbrev pub invariant-loop-step : goal.invariant-loop-step

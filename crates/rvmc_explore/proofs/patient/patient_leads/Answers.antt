@@ -1,7 +1,7 @@
 use Rattle.std.proofs.Common.{◌≡◌, filter, subst, List, ℕ}
 use Rattle.cl_explore.specs.Ends.{findings}
 use Rattle.cl_explore.specs.declared.leads.Lead.{Lead}
-use Rattle.rvmc_explore.specs.Patient.{is_patient}
+use Rattle.rvmc_explore.specs.InnerPatient.{is_patient}
 use Rattle.rvmc_explore.proofs.Patience.{are_patient}
 use Rattle.rvmc_explore.proofs.patient.patient_leads.Goals as goal
 

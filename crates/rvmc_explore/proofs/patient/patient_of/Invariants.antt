@@ -1,5 +1,5 @@
 use Rattle.std.proofs.Common.{◌≡◌, filter, take}
-use Rattle.rvmc_explore.specs.Patient.{is_patient}
+use Rattle.rvmc_explore.specs.InnerPatient.{is_patient}
 use Rattle.rvmc_explore.proofs.patient.patient_of.Given as goal
 
 -- those so far
