@@ -24,7 +24,7 @@ function finish() {
     kind[number] = needs ? "needs" : traps ? "trap" : aborter != "" ? "abort" : dead ? "dead" : "end"
     rest[number] = (code && !outputs ? 2 : code + 0) " " (lost + 0) " "
     if (kind[number] == "abort") rest[number] = rest[number] abort_words()
-    else if (needs && traps) rest[number] = rest[number] trapper
+    else if (traps) rest[number] = rest[number] trapper
     if (kind[number] != "dead" && kind[number] != "needs") waits[number] = ""
     needs = traps = dead = code = lost = outputs = 0
     aborter = ""
@@ -55,9 +55,14 @@ function stuck_anyway(number, n, i, k, line, word) {
     traps = 1
     trapper = $2
 }
-/ hart [0-9]+ waits at / { waits[number] = waits[number] $0 "\n" }
+/ hart [0-9]+ (waits|goes on) at / { waits[number] = waits[number] $0 "\n" }
 /^deadlock: / { dead = 1 }
 /^needs buffering: / { needs = 1 }
+# ranks that have ended have no line there: a report of the outcome tells whether one of them trapped, or called MPI_Abort
+/^some runs go on for ever if sends wait: / {
+    needs = 1
+    code = 2
+}
 / unreceived: / { lost = 1 }
 /^some runs go on for ever$/ { endless = 1 }
 /^[0-9]+ outcomes? of [0-9]+ states?: / { last = $0; sub(/^[^:]*: /, "", last) }
