@@ -24,7 +24,7 @@ function finish() {
     kind[number] = needs ? "needs" : traps ? "trap" : aborter != "" ? "abort" : dead ? "dead" : "end"
     rest[number] = (code && !outputs ? 2 : code + 0) " " (lost + 0) " "
     if (kind[number] == "abort") rest[number] = rest[number] abort_words()
-    else if (traps) rest[number] = rest[number] trapper
+    else if (needs && traps) rest[number] = rest[number] trapper
     if (kind[number] != "dead" && kind[number] != "needs") waits[number] = ""
     needs = traps = dead = code = lost = outputs = 0
     aborter = ""
@@ -58,9 +58,9 @@ function stuck_anyway(number, n, i, k, line, word) {
 / hart [0-9]+ (waits|goes on) at / { waits[number] = waits[number] $0 "\n" }
 /^deadlock: / { dead = 1 }
 /^needs buffering: / { needs = 1 }
-# ranks that have ended have no line there: a report of the outcome tells whether one of them trapped, or called MPI_Abort
+# it has no line for ranks that have ended: one of them may have called MPI_Abort
 /^some runs go on for ever if sends wait: / {
-    needs = 1
+    needs = hangs[number] = 1
     code = 2
 }
 / unreceived: / { lost = 1 }
@@ -74,7 +74,8 @@ END {
     }
     for (i = 1; i <= number; i++) {
         if (!(i in kind)) continue
-        stuck = kind[i] == "needs" ? stuck_anyway(i) : ""
+        # one that waits for a rank that is stuck or trapped needs buffers, and then explore looks for no runs that hang
+        stuck = kind[i] == "needs" && !(i in hangs) ? stuck_anyway(i) : ""
         if (stuck == "") print "outcome", i, kind[i], rest[i]
         else print "outcome", i, "stuck", substr(rest[i], 1, 3), stuck
     }
