@@ -77,7 +77,9 @@ function buffering(more, i) {
     }
     if (harts > 1) return "unknown: ranks have several harts; --unbuffered searches with sends that all wait"
     if (which("cut") != "") return "unknown: ranks may wait in a send when MPI_Abort is called, as in " which("cut")
-    if (last == "no other outcome") return "not needed" (endless ? " so far: some schedules go on for ever anyway; fix that first" : "")
+    if (last == "no other outcome" && !endless) return "not needed"
+    # explore looks there for no runs that hang
+    if (last == "no other outcome") return "not needed so far: some schedules go on for ever anyway; fix that first"
     if (links) return "unknown: a rank waits for partitions, or looking for ranks that need buffers" enough
     print "" >(room "more")
     return "unknown: looking for ranks that need buffers" enough
