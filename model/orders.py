@@ -32,6 +32,9 @@ CLOSING = re.compile(
 
 UNENDING = b"some runs go on for ever\n"
 
+# how the last line begins of a state from which runs hang if sends wait
+HANGING = b"some runs go on for ever if sends wait: "
+
 UNKNOWN = b"not all: whether ranks need buffers is unknown; raise --states, or use --buffered\n"
 
 # how many ends an outcome stands for
@@ -535,11 +538,12 @@ class Recorded:
         """What is wrong with it as the outcome of this number, or None."""
         if self.bad is not None:
             return f"no turn by the plan at step {self.bad}"
-        company, need = (told.bodies[number - 1] in some for some in (told.companies, told.needs))
-        if not company and not need and not self.is_end():
+        company, need, hang = (told.bodies[number - 1] in some for some in (told.companies, told.needs, told.hangs))
+        if not company and not need and not hang and not self.is_end():
             return "no end"
         text = why.told_of_company(self.walk.cluster) if company else self.text()
         text = why.told_of_need(self.walk.cluster) if need else text
+        text = why.told_of_hang(self.walk.cluster) if hang else text
         if told.bodies[number - 1] + told.whys[number - 1] != text:
             return f"an outcome at which is told {text}"
         head = f"outcome {number}{self.difference(first)}\n".encode()
@@ -571,10 +575,11 @@ def sources_of(reply):
 class Told:
     """What `explore` told, taken apart: the line of each outcome, what is told of its ranks and, at an end, of what each hart
     waits for. Of ranks that are stuck while others run on, or that need buffers, that is one text, and `companies` and `needs`
-    have these."""
+    have these; and `hangs` has that of a state from which runs hang if sends wait."""
 
     def __init__(self, text, image):
         self.heads, self.bodies, self.whys, self.companies, self.needs = [], [], [], set(), set()
+        self.hangs = set()
         at = 0
         while text[at:].startswith(b"outcome "):
             stop = text.index(b"\n", at) + 1
@@ -603,11 +608,11 @@ class Told:
                 self.is_whole = None
 
     def take_company(self, text, start):
-        """Takes what is told of ranks that are stuck, or need buffers. Returns where it ends."""
-        at = start
-        while not text[at:].startswith((b"deadlock: ", b"needs buffering: ")):
+        """Takes what is told of ranks that are stuck, or need buffers, or hang if sends wait. Returns where it ends."""
+        kinds, at = {b"deadlock: ": self.companies, b"needs buffering: ": self.needs, HANGING: self.hangs}, start
+        while not text[at:].startswith(tuple(kinds)):
             at = text.index(b"\n", at) + 1
-        told = self.companies if text[at:].startswith(b"deadlock: ") else self.needs
+        told = next(some for begun, some in kinds.items() if text[at:].startswith(begun))
         at = text.index(b"\n", at) + 1
         self.bodies.append(text[start:at])
         self.whys.append(b"")
@@ -631,13 +636,13 @@ class Told:
 
     def looking_lines(self):
         """The lines of outcomes that two or more ends look like, as they have to be."""
-        ends = [number for number, body in enumerate(self.bodies, 1) if body not in self.companies | self.needs]
+        ends = [number for number, body in enumerate(self.bodies, 1) if body not in self.companies | self.needs | self.hangs]
         rows = [(self.looking[number], number) for number in ends if self.looking.get(number, 1) > 1]
         return b"".join(b"%d ends look like outcome %d\n" % row for row in rows)
 
     def ends(self):
         """What is told of the ranks of each end."""
-        return set(self.bodies) - self.companies - self.needs
+        return set(self.bodies) - self.companies - self.needs - self.hangs
 
     def shared(self):
         """How many ends have each text, with what each hart waits for."""
@@ -663,7 +668,7 @@ class Told:
         lines = b"".join(self.ends())
         if re.search(rb"^rank \d hart \d trapped ", lines, re.MULTILINE):
             return 3
-        if self.companies or self.needs or re.search(rb"^rank \d stop stuck$", lines, re.MULTILINE):
+        if self.companies or self.needs or self.hangs or re.search(rb"^rank \d stop stuck$", lines, re.MULTILINE):
             return 7
         return 8 if self.is_unending else 0
 

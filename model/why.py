@@ -297,6 +297,32 @@ def told_of_need(cluster):
     return ("".join(lines) + f"needs buffering: {named(cluster, among)}\n").encode()
 
 
+def going_line(image, rank):
+    """Where a rank goes on: in the library at the program's own call, with the function of the library."""
+    hart = rank.harts[0]
+    call = frames.own_call(image, hart, rank.memory)
+    if call:
+        function = places.function(image, call[1])
+        at = places.name(image, call[0]) + (f", in {function}" if function else "")
+    else:
+        at = places.name(image, hart.pc) if places.has_line(image, hart.pc) else places.place(image, hart.pc)
+    return f"rank {rank.number} hart 0 goes on at {at}\n"
+
+
+def told_of_hang(cluster):
+    """What is told of a state from which no run ends if standard sends wait: how each rank stands that hasn't stopped. Each rank has
+    one hart."""
+    waits, lines, live = waits_of(cluster), [], set()
+    for rank in cluster.ranks:
+        if rank.harts[0].is_stopped():
+            continue
+        live.add(rank.number)
+        rest = rest_of(cluster.hub, rank, cluster.comms)
+        goes = rest is None and rank.harts[0].mode == RUNNING
+        lines.append(going_line(cluster.image, rank) if goes else held_line(cluster, rank, rest, waits[rank.number, 0]))
+    return ("".join(lines) + f"some runs go on for ever if sends wait: {named(cluster, live)}\n").encode()
+
+
 def is_held_up(rank, rest, waits, among):
     """Whether a rank is stuck, or rests until one of these ranks receives."""
     return is_stuck(rank, waits, among) or (rest is not None and not among.isdisjoint(rest.receivers))

@@ -55,9 +55,14 @@ function stuck_anyway(number, n, i, k, line, word) {
     traps = 1
     trapper = $2
 }
-/ hart [0-9]+ waits at / { waits[number] = waits[number] $0 "\n" }
+/ hart [0-9]+ (waits|goes on) at / { waits[number] = waits[number] $0 "\n" }
 /^deadlock: / { dead = 1 }
 /^needs buffering: / { needs = 1 }
+# it has no line for ranks that have ended: one of them may have called MPI_Abort
+/^some runs go on for ever if sends wait: / {
+    needs = hangs[number] = 1
+    code = 2
+}
 / unreceived: / { lost = 1 }
 /^some runs go on for ever$/ { endless = 1 }
 /^[0-9]+ outcomes? of [0-9]+ states?: / { last = $0; sub(/^[^:]*: /, "", last) }
@@ -69,7 +74,8 @@ END {
     }
     for (i = 1; i <= number; i++) {
         if (!(i in kind)) continue
-        stuck = kind[i] == "needs" ? stuck_anyway(i) : ""
+        # one that waits for a rank that is stuck or trapped needs buffers, and then explore looks for no runs that hang
+        stuck = kind[i] == "needs" && !(i in hangs) ? stuck_anyway(i) : ""
         if (stuck == "") print "outcome", i, kind[i], rest[i]
         else print "outcome", i, "stuck", substr(rest[i], 1, 3), stuck
     }

@@ -18,12 +18,12 @@ FILENAME == ARGV[2] && /^  called from / { calls[hart] = calls[hart] "\n" substr
 FILENAME == ARGV[2] { next }
 /^outcome [0-9]+/ { number = $2 + 0; next }
 /^rank [0-9]+ output [0-9]+$/ { for (left = $4 + 1; left > 0 && (getline line) > 0; ) left -= length(line) + 1; next }
-number == needed && / hart [0-9]+ waits at / { needs[++n] = $0 }
+number == needed && / hart [0-9]+ (waits|goes on) at / { needs[++n] = $0 }
 
 # the calls that led to where a hart needs buffers: behind the one at its own place
 function led_to(text, word, call, count, i, own, led) {
     split(text, word, " ")
-    sub(/^.* waits at /, "", text)
+    sub(/^.* (waits|goes on) at /, "", text)
     match(text, /^[^ ,]+( in [^ ,]+)?/)
     own = substr(text, 1, RLENGTH)
     count = split(calls[word[2] " " word[4]], call, "\n")
@@ -68,10 +68,8 @@ function buffering(more, i) {
     if (needed) {
         more = which("needs", needed)
         more = more == "" ? "" : "; see also " more
-        return "needed: without buffers " waiting(needs, n) " for ever in outcome " needed more
+        return "needed: without buffers " stand(needs, n, needed) more
     }
-    more = ENVIRON["rvmc_polls"] == "" ? "" : ", unless a rank polls for what a waiting send holds back"
-    if (last == "no other outcome") return "not needed" more
     if (!whole) return "unknown: not all schedules were searched: " left_out
     for (i = 1; i <= found; i++) {
         if (kind[i] != "stuck") continue
@@ -79,6 +77,9 @@ function buffering(more, i) {
     }
     if (harts > 1) return "unknown: ranks have several harts; --unbuffered searches with sends that all wait"
     if (which("cut") != "") return "unknown: ranks may wait in a send when MPI_Abort is called, as in " which("cut")
+    if (last == "no other outcome" && !endless) return "not needed"
+    # explore looks there for no runs that hang
+    if (last == "no other outcome") return "not needed so far: some schedules go on for ever anyway; fix that first"
     if (links) return "unknown: a rank waits for partitions, or looking for ranks that need buffers" enough
     print "" >(room "more")
     return "unknown: looking for ranks that need buffers" enough

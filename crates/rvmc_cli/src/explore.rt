@@ -22,18 +22,24 @@ const EXAMPLES: &str = "\
 What a program prints may depend on which rank runs first. `explore` runs the
 image under every schedule of its ranks, and lists every outcome: an end, which
 is a state from which no hart goes on; ranks that are stuck while others run on
-for ever, as `deadlock: ranks 1 2 while others run on`; or ranks that need
-buffers, as `needs buffering: ranks 0 1`.
+for ever, as `deadlock: ranks 1 2 while others run on`; ranks that need buffers,
+as `needs buffering: ranks 0 1`; or a state from which runs hang if sends wait,
+as `some runs go on for ever if sends wait: ranks 0 1`.
 
 Every run is one of this machine. A send copies its message and returns, and a
 message arrives at once. MPI allows more: a standard send may wait until it is
 received (MPI 4.1, 3.4), a nonblocking one in MPI_Wait or MPI_Waitall. Ranks that
 get stuck only if sends wait need buffers, and the program is unsafe (3.5), though
 each run of it may end well here. The first ones that are found are listed.
-MPI_Test and calls like it take a standard send as complete. --buffered takes
-each standard send to copy its message and to return, and doesn't look for ranks
-that need buffers. The harts of a rank take turns in the order that --plan lists,
-the same for each rank: numbers from 0 to 255 with a comma between them.
+MPI_Test and calls like it take a rank's own standard send as complete.
+
+A rank that polls for what comes behind a send that waits isn't stuck: it goes on
+for ever. If no ranks need buffers, and no run goes on for ever anyway, one state
+is listed from which the program can still end, but not if all sends wait.
+
+--buffered takes each standard send to copy its message and to return, and looks
+for neither. The harts of a rank take turns in the order that --plan lists, the
+same for each rank: numbers from 0 to 255 with a comma between them.
 
 For each end the text has what each rank printed, how each hart ended, and, if a
 hart waits for ever, the text of `rvmc why`. From the second outcome on, the
@@ -103,7 +109,7 @@ Status:
   5 out of memory
   6 a read or write failed, or the input is too long
   7 the list is complete, and some end is a deadlock, some ranks are stuck
-    while others run on, or some ranks need buffers
+    while others run on, some ranks need buffers, or runs hang if sends wait
   8 the list is complete, and some run goes on for ever: nothing ends it any more
 
 Examples:
