@@ -38,7 +38,7 @@ returns-clause-goes c =
     let again = c.index-again.result.now in
     let here = slice_get_read new.items c.len-2.result c.args.node again (c.len-2.ensures ∙ new.ok.0)
     c.if-node-len-2.false c.index-again.ensures in
-    let lead : Lead = record { rank = c.rank.result; from = c.args.node; to = c.in_ok-to.to } in
+    let lead : Lead = record { rank = c.rank-rank.result; from = c.args.node; to = c.in_ok-to.to } in
     goes_on (how_in c.args.course.now) c.args.course.now.order.now c.args.self.now _ c.args.node c.in_ok-to.to lead c.args.turn
     c.args.live.now c.take.new.self c.go_on.new.live c.restore.new.standing c.rank.ensures refl refl
     (c.in_ok-push.ensures.items ∙ ap (λ ls. ls.items ++ lead ∷ []) c.in_ok-to.ensures.leads)
