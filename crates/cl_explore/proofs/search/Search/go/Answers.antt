@@ -40,7 +40,7 @@ returns-clause-goes c =
     c.if-node-len-2.false c.index-again.ensures in
     let lead : Lead = record { rank = c.rank-rank.result; from = c.args.node; to = c.in_ok-to.to } in
     goes_on (how_in c.args.course.now) c.args.course.now.order.now c.args.self.now _ c.args.node c.in_ok-to.to lead c.args.turn
-    c.args.live.now c.take.new.self c.go_on.new.live c.restore.new.standing c.rank.ensures refl refl
+    c.args.live.now c.take.new.self c.go_on.new.live c.restore.new.standing c.rank-rank.ensures refl refl
     (c.in_ok-push.ensures.items ∙ ap (λ ls. ls.items ++ lead ∷ []) c.in_ok-to.ensures.leads)
     (subst (λ b. Takes c.args.live.now c.args.turn c.take.new.self b) c.if-not-branch.false c.in_ok-take.ensures.takes)
     c.in_ok-fewer.ensures.on c.in_ok-to.ensures.arrives
