@@ -48,7 +48,7 @@ function outcomes(before) {
     before = sends == "" ? "" : sends " "
     if (!whole) return "not all were found: " left_out
     if (!ends) return before "no schedule comes to an end"
-    if (endless) return before "no schedule leads to any other outcome"
+    if (endless) return before "no schedule that ends leads to any other outcome"
     before = before "every schedule that ends leads to "
     if (ends == found) return before (ends == 1 ? "this outcome" : "one of these " ends " outcomes")
     return before (ends == 1 ? "" : "one of ") which("end trap abort dead")
