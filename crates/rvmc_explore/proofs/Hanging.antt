@@ -27,7 +27,7 @@ use Rattle.cl_explore.specs.Ends.{ExploredFrom, Findings, IsVisitedNode}
 use Rattle.cl_explore.specs.declared.leads.Lead.{Lead}
 use Rattle.cl_explore.proofs.Keeping.{node_found}
 use Rattle.cl_explore.proofs.Lists.{at_inside}
-use Rattle.rvmc_explore.specs.Hangs.{NeverHangs, SomeHangs}
+use Rattle.rvmc_explore.specs.Hangs.{NeverHangs}
 use Rattle.rvmc_explore.specs.Patient.{Hangs, IsPatientlyLed, PatientlyGoesIn, PatientlyGoesTo, is_in, rests_at}
 use Rattle.rvmc_explore.specs.Searched.{GoesTo}
 use Rattle.rvmc_explore.proofs.Endless.{end_may}
@@ -170,9 +170,9 @@ module _ (image : ImageParts) (order : List ℕ) (start : Node) (found : Finding
     trap : IsPatientTrap plans nodes moves lost
     trap = record {
       stays = λ r i j node none move at rests goes.
-          none (suc goes.0, j, (r, move_lead found.leads r i j move, rests_there i r node at ∙ rests), goes.1);
+          none (suc goes.0, (j, (r, move_lead found.leads r i j move, rests_there i r node at ∙ rests), goes.1));
       no_end = λ i node none at end.
-          let k = explored.told i node (visited i node at) end in none (0, k.0, k.1);
+          let k = explored.told i node (visited i node at) end in none (0, (k.0, k.1));
     }
 
     hangs_at : (i : ℕ) (node : Node) → slice_get nodes i ≡ Some node → Hangs found i → HangsIfSendsWait plans node

@@ -143,7 +143,7 @@ never_hangs_by image order buffered states turns text status tells known none qu
     of : (n : Needs) → (tells.listed).needs ≡ n → is_unknown n ≡ false → is_somebody n ≡ false
         → SaysNeeds buffered image (tells.listed).found (ListsNeed image order tells.told) n
         → NeverHangs order (first_node image)
-    of needs.Unsought is a b no = absurd (no sought)
+    of needs.Unsought is a b says_so = absurd (says_so sought)
     of needs.Nobody is a b its = says is ends
     of needs.Somebody is a b its = absurd (cc)
     of needs.Unknown is a b its = absurd (cc)
