@@ -7,7 +7,7 @@ ghost use Rattle.cl_contests.specs.Lone.{IsNextTurn};
 ghost use Rattle.cl_contests.specs.Turns.{AsksWithin, GoesWithin, IsFirstCall, IsFirstNext, IsMeetingCall, IsMeetingNext};
 ghost use Rattle.cl_contests.specs.Turns.{TellsWithin};
 
-use crate::alone::all_alone;
+use crate::alone::{Spent, all_alone};
 use crate::asking::{is_found_turn, is_look, is_made_anew, is_ready_turn};
 use crate::lone::next_lone;
 use crate::patterns::Patterns;
@@ -259,10 +259,11 @@ fn go_on(
 {
     let mut whose = whose;
     let mut looks = 0;
+    let mut spent = Spent::new();
     for _round in 0..most {
         // a rank that rested goes on once the turn of another rank received its message
         let left = if patterns.may_wait { None } else { whose };
-        let long = all_alone(standing, left, most, patterns)?;
+        let long = all_alone(alloc, standing, left, most, patterns, &mut spent)?;
         if !all_within(standing, patterns, missing)? {
             return Ok(Went {
                 within: false,
