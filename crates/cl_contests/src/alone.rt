@@ -55,8 +55,8 @@ enum Alone {
     Long,
 }
 
-/// The ranks that go round by themselves for ever. Turns of others change nothing about that, so they take no more turns for
-/// now.
+/// The ranks that take no more turns by themselves for now: those that go round for ever, about which turns of others change
+/// nothing, and those that took as many as they were let.
 #[derive(Drop)]
 pub(crate) struct Spent {
     ranks: [bool; RANKS_MAX as usize],
@@ -142,10 +142,13 @@ fn go_unless_spent(
     }
     match go_alone(alloc, standing, rank, most, patterns)? {
         Alone::Done => Ok(false),
-        Alone::Long => Ok(true),
         Alone::Round => {
             spent.add(rank);
             Ok(false)
+        }
+        Alone::Long => {
+            spent.add(rank);
+            Ok(true)
         }
     }
 }
