@@ -6,10 +6,11 @@ ghost use Rattle.cl_contests.specs.Turns.{GoesAlone, IsBusyIfSome, IsBusyNext};
 use crate::patterns::Patterns;
 use cl_journal::CLOCK_MAX;
 use cl_machine::Step;
-use cl_moves::{MoveFault, Standing};
+use cl_moves::{MoveFault, Standing, Watch};
 use cl_state::Ask;
 use cl_trace::Bare;
 use rv_image_types::RANKS_MAX;
+use std::alloc::{AllocError, Global};
 
 /// The kind of a turn that needs only its rank and goes on, of a hart that asks this.
 fn busy_kind(ask: &Ask) -> Option<Bare>
@@ -43,42 +44,131 @@ fn next_busy(standing: &Standing, rank: u8, patterns: &Patterns) -> Result<Optio
     Ok(Some(Step::bare(rank, 0, own.clock + 1, kind)))
 }
 
-/// Takes such turns of a rank, at most so many. Answers whether it took fewer.
+/// How a rank took turns that need only itself.
+#[derive(Clone, Copy, Drop)]
+enum Alone {
+    /// It has no more of them.
+    Done,
+    /// It came back to where it was: it takes them for ever.
+    Round,
+    /// It took as many as it was let.
+    Long,
+}
+
+/// The ranks that take no more turns by themselves for now: those that go round for ever, about which turns of others change
+/// nothing, and those that took as many as they were let.
+#[derive(Drop)]
+pub(crate) struct Spent {
+    ranks: [bool; RANKS_MAX as usize],
+}
+
+impl Spent {
+    /// None of them.
+    pub(crate) fn new() -> Spent {
+        Spent {
+            ranks: [false; RANKS_MAX as usize],
+        }
+    }
+
+    fn has(&self, rank: u8) -> bool {
+        match self.ranks.get(usize::from(rank)) {
+            Some(spent) => *spent,
+            None => false,
+        }
+    }
+
+    fn add(&mut self, rank: u8) {
+        if rank < RANKS_MAX {
+            self.ranks[usize::from(rank)] = true;
+        }
+    }
+}
+
+/// Whether a rank that is watched holds what it held after an earlier turn, if it is there.
+fn is_back(
+    alloc: Global,
+    standing: &Standing,
+    rank: u8,
+    watch: &mut Watch,
+) -> Result<bool, AllocError> {
+    match standing.cluster.ranks.get(usize::from(rank)) {
+        Some(own) => watch.is_back(alloc, own),
+        None => Ok(false),
+    }
+}
+
+/// Takes such turns of a rank, at most so many, until it comes back to where it was.
 ///
 /// Refusals: Clock, Memory. Then the standing may be anything.
 fn go_alone(
+    alloc: Global,
     standing: &mut Standing,
     rank: u8,
     most: u64,
     patterns: &Patterns,
+) -> Result<Alone, MoveFault>
+    ensures { OnOk result (GoesAlone patterns.now.may_wait standing.old standing.new) }
+{
+    let mut watch = Watch::new();
+    for _turn in 0..most {
+        let Some(turn) = next_busy(standing, rank, patterns)? else {
+            return Ok(Alone::Done);
+        };
+        if !standing.take(turn)? {
+            return Ok(Alone::Done);
+        }
+        if is_back(alloc, standing, rank, &mut watch)? {
+            return Ok(Alone::Round);
+        }
+    }
+    Ok(Alone::Long)
+}
+
+/// The same of a rank that isn't spent. Answers whether it would take more.
+///
+/// Refusals: Clock, Memory. Then the standing may be anything.
+fn go_unless_spent(
+    alloc: Global,
+    standing: &mut Standing,
+    rank: u8,
+    most: u64,
+    patterns: &Patterns,
+    spent: &mut Spent,
 ) -> Result<bool, MoveFault>
     ensures { OnOk result (GoesAlone patterns.now.may_wait standing.old standing.new) }
 {
-    for _turn in 0..most {
-        let Some(turn) = next_busy(standing, rank, patterns)? else {
-            return Ok(true);
-        };
-        if !standing.take(turn)? {
-            return Ok(true);
+    if spent.has(rank) {
+        return Ok(false);
+    }
+    match go_alone(alloc, standing, rank, most, patterns)? {
+        Alone::Done => Ok(false),
+        Alone::Round => {
+            spent.add(rank);
+            Ok(false)
+        }
+        Alone::Long => {
+            spent.add(rank);
+            Ok(true)
         }
     }
-    Ok(false)
 }
 
 /// The same of each rank. Answers the first one that would take more, if there is one.
 ///
 /// Refusals: Clock, Memory. Then the standing may be anything.
 fn each_alone(
+    alloc: Global,
     standing: &mut Standing,
     most: u64,
     patterns: &Patterns,
+    spent: &mut Spent,
 ) -> Result<Option<u8>, MoveFault>
     ensures { OnOk result (GoesAlone patterns.now.may_wait standing.old standing.new) }
 {
     let mut long = None;
     for rank in 0..RANKS_MAX {
-        let fewer = go_alone(standing, rank, most, patterns)?;
-        if !fewer && long.is_none() {
+        let more = go_unless_spent(alloc, standing, rank, most, patterns, spent)?;
+        if more && long.is_none() {
             long = Some(rank);
         }
     }
@@ -89,16 +179,18 @@ fn each_alone(
 ///
 /// Refusals: Clock, Memory. Then the standing may be anything.
 pub(crate) fn all_alone(
+    alloc: Global,
     standing: &mut Standing,
     whose: Option<u8>,
     most: u64,
     patterns: &Patterns,
+    spent: &mut Spent,
 ) -> Result<Option<u8>, MoveFault>
     ensures { OnOk result (GoesAlone patterns.now.may_wait standing.old standing.new) }
 {
     let Some(rank) = whose else {
-        return each_alone(standing, most, patterns);
+        return each_alone(alloc, standing, most, patterns, spent);
     };
-    let fewer = go_alone(standing, rank, most, patterns)?;
-    Ok(if fewer { None } else { Some(rank) })
+    let more = go_unless_spent(alloc, standing, rank, most, patterns, spent)?;
+    Ok(if more { Some(rank) } else { None })
 }

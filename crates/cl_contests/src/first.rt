@@ -7,7 +7,7 @@ ghost use Rattle.cl_contests.specs.Lone.{IsNextTurn};
 ghost use Rattle.cl_contests.specs.Turns.{AsksWithin, GoesWithin, IsFirstCall, IsFirstNext, IsMeetingCall, IsMeetingNext};
 ghost use Rattle.cl_contests.specs.Turns.{TellsWithin};
 
-use crate::alone::all_alone;
+use crate::alone::{Spent, all_alone};
 use crate::asking::{is_found_turn, is_look, is_made_anew, is_ready_turn};
 use crate::lone::next_lone;
 use crate::patterns::Patterns;
@@ -228,9 +228,17 @@ fn next_turn(
     next_lone(alloc, standing, patterns)
 }
 
-/// Whether a rank would take more turns by itself, or there were more looks in a row than are allowed.
-fn is_enough(long: Option<u8>, looks: u64) -> bool {
-    long.is_some() || looks > LOOKS
+/// Whether there were more looks in a row than are allowed.
+fn is_enough(looks: u64) -> bool {
+    looks > LOOKS
+}
+
+/// The first of two ranks, if there is one.
+fn first_rank(one: Option<u8>, other: Option<u8>) -> Option<u8> {
+    match one {
+        Some(rank) => Some(rank),
+        None => other,
+    }
 }
 
 /// How many looks at messages there were in a row, with this turn.
@@ -259,17 +267,20 @@ fn go_on(
 {
     let mut whose = whose;
     let mut looks = 0;
+    let mut long = None;
+    let mut spent = Spent::new();
     for _round in 0..most {
         // a rank that rested goes on once the turn of another rank received its message
         let left = if patterns.may_wait { None } else { whose };
-        let long = all_alone(standing, left, most, patterns)?;
+        let more = all_alone(alloc, standing, left, most, patterns, &mut spent)?;
+        long = first_rank(long, more);
         if !all_within(standing, patterns, missing)? {
             return Ok(Went {
                 within: false,
                 long,
             });
         }
-        if is_enough(long, looks) {
+        if is_enough(looks) {
             return Ok(Went { within: true, long });
         }
         let Some(turn) = next_turn(alloc, standing, patterns)? else {

@@ -54,7 +54,7 @@ fn go_once(course: &Manner<'_>, live: &mut Standing, rank: u8) -> Result<bool, M
     if !live.take(turn)? {
         return Ok(false);
     }
-    live.go_ahead(rank, course.order, MOST_ALONE)?;
+    live.go_ahead(course.alloc, rank, course.order, MOST_ALONE)?;
     Ok(true)
 }
 

@@ -105,9 +105,9 @@ fn go_on(
     ensures halt { IfErr result (IsHaltOf course.now.way) }
 {
     match course.way {
-        Way::Plainly => Ok(live.go_ahead(rank, course.order, course.most)?),
+        Way::Plainly => Ok(live.go_ahead(course.alloc, rank, course.order, course.most)?),
         Way::AtOnce => {
-            let fewer = live.go_ahead(rank, course.order, course.most)?;
+            let fewer = live.go_ahead(course.alloc, rank, course.order, course.most)?;
             live.go_surely(course.alloc, course.order, course.most)?;
             Ok(fewer)
         }
@@ -130,9 +130,9 @@ pub(crate) fn settle(
     ensures halt { IfErr result (IsHaltOf course.now.way) }
 {
     match course.way {
-        Way::Plainly => Ok(live.settle(course.order, course.most)?),
+        Way::Plainly => Ok(live.settle(course.alloc, course.order, course.most)?),
         Way::AtOnce => {
-            let long = live.settle(course.order, course.most)?;
+            let long = live.settle(course.alloc, course.order, course.most)?;
             live.go_surely(course.alloc, course.order, course.most)?;
             Ok(long)
         }

@@ -5,3 +5,4 @@ pub mod Ends
 pub mod Whole
 pub mod Posts
 pub mod Sure
+pub mod Cycles

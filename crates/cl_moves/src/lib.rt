@@ -5,13 +5,16 @@
 //! The laws of closed sets of clusters are those of `cl_order_laws`.
 #![tactic(auto)]
 
+mod cycles;
 mod ends;
 mod faults;
+mod same;
 mod single;
 mod standing;
 mod sure;
 mod turns;
 
+pub use cycles::Watch;
 pub use ends::{is_done, is_end, is_in_vain};
 pub use faults::MoveFault;
 pub use single::Whose;

@@ -5,6 +5,7 @@ ghost use Rattle.cl_moves.specs.Ahead.{GoesAhead, IsAloneIfSome, IsAloneNext};
 ghost use Rattle.cl_moves.specs.Standing.{IsNextHart, IsStart, Takes};
 ghost use Rattle.cl_moves.specs.Whole.{Follows, IsAskedBy, requested};
 
+use crate::cycles::Watch;
 use crate::ends::is_done;
 use crate::faults::MoveFault;
 use cl_journal::CLOCK_MAX;
@@ -169,18 +170,49 @@ impl Standing {
         Ok(Some(Step::bare(rank, hart, own.clock + 1, kind)))
     }
 
-    /// Takes turns of a rank that need only the rank, at most so many. Answers whether it took fewer.
+    /// Whether a rank that is watched holds what it held after an earlier turn, if this is the first place of those that turns
+    /// come to.
+    fn is_back(
+        &self,
+        alloc: Global,
+        rank: u8,
+        place: u64,
+        watch: &mut Watch,
+    ) -> Result<bool, AllocError> {
+        if place != 0 {
+            return Ok(false);
+        }
+        match self.cluster.ranks.get(usize::from(rank)) {
+            Some(own) => watch.is_back(alloc, own),
+            None => Ok(false),
+        }
+    }
+
+    /// Takes turns of a rank that need only the rank, at most so many. Answers whether it took fewer, or came back to where
+    /// it was, at the same place of the order.
     ///
     /// Refusals: Clock, Memory. Then the standing may be anything.
-    pub fn go_ahead(&mut self, rank: u8, order: &[u8], most: u64) -> Result<bool, MoveFault>
+    pub fn go_ahead(
+        &mut self,
+        alloc: Global,
+        rank: u8,
+        order: &[u8],
+        most: u64,
+    ) -> Result<bool, MoveFault>
         requires { 0 < length order.now }
         ensures { OnOk result (GoesAhead order.now self.old self.new) }
     {
-        for _turn in 0..most {
-            let Some(turn) = self.next_alone(rank, order)? else {
+        let mut watch = Watch::new();
+        for turn in 0..most {
+            let Some(next) = self.next_alone(rank, order)? else {
                 return Ok(true);
             };
-            if !self.take(turn)? {
+            if !self.take(next)? {
+                return Ok(true);
+            }
+            // behind turns of one and the same hart of the order
+            let place = turn % order.len() as u64;
+            if self.is_back(alloc, rank, place, &mut watch)? {
                 return Ok(true);
             }
         }
@@ -191,13 +223,18 @@ impl Standing {
     /// if there is one.
     ///
     /// Refusals: Clock, Memory. Then the standing may be anything.
-    pub fn settle(&mut self, order: &[u8], most: u64) -> Result<Option<u8>, MoveFault>
+    pub fn settle(
+        &mut self,
+        alloc: Global,
+        order: &[u8],
+        most: u64,
+    ) -> Result<Option<u8>, MoveFault>
         requires { 0 < length order.now }
         ensures { OnOk result (GoesAhead order.now self.old self.new) }
     {
         let mut long = None;
         for rank in 0..RANKS_MAX {
-            let fewer = self.go_ahead(rank, order, most)?;
+            let fewer = self.go_ahead(alloc, rank, order, most)?;
             if !fewer && long.is_none() {
                 long = Some(rank);
             }

@@ -124,7 +124,7 @@ impl Standing {
         if !self.take(turn)? {
             return Ok(false);
         }
-        self.go_ahead(rank, order, most)?;
+        self.go_ahead(alloc, rank, order, most)?;
         Ok(true)
     }
 

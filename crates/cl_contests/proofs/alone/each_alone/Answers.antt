@@ -6,5 +6,5 @@ loop-rank-init c = alone_stays c.args.patterns.now.may_wait c.args.standing.now
 
 pub loop-rank-preserved : goal.loop-rank-preserved
 loop-rank-preserved c =
-    alone_more c.args.patterns.now.may_wait c.args.standing.now c.loop-rank.standing c.go_alone.new.standing
-    c.loop-rank.invariant c.in_ok-fewer.ensures
+    alone_more c.args.patterns.now.may_wait c.args.standing.now c.loop-rank.standing c.go_unless_spent.new.standing
+    c.loop-rank.invariant c.in_ok-more.ensures

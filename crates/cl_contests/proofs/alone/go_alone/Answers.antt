@@ -19,3 +19,10 @@ loop-turn-preserved c =
     alone_more c.args.patterns.now.may_wait c.args.standing.now c.loop-turn.standing c.take.new.self c.loop-turn.invariant
     (alone_taken c.args.patterns.now.may_wait c.loop-turn.standing c.take.new.self c.in-Some.turn turn c.in_ok-take.field-0
     c.in_ok-take.ensures.takes)
+
+pub returns-then-branch : goal.returns-then-branch
+returns-then-branch c =
+    let turn = subst (λ o. IsBusyNext c.args.patterns.now.may_wait c.loop-turn.standing o) c.in-Some.is c.in_ok-turn.ensures in
+    alone_more c.args.patterns.now.may_wait c.args.standing.now c.loop-turn.standing c.take.new.self c.loop-turn.invariant
+    (alone_taken c.args.patterns.now.may_wait c.loop-turn.standing c.take.new.self c.in-Some.turn turn c.in_ok-take.field-0
+    c.in_ok-take.ensures.takes)

@@ -15,14 +15,14 @@ returns-then-is_enough c =
     let may_wait = c.args.patterns.now.may_wait in
     let kept = c.args.patterns.now.kept.items in
     within_more may_wait kept c.args.standing.now c.loop-round.standing c.all_alone.new.standing c.loop-round.invariant
-    (within_alone may_wait kept c.loop-round.standing c.all_alone.new.standing c.in_ok-long.ensures)
+    (within_alone may_wait kept c.loop-round.standing c.all_alone.new.standing c.in_ok-more.ensures)
 
 pub returns-in_default : goal.returns-in_default
 returns-in_default c =
     let may_wait = c.args.patterns.now.may_wait in
     let kept = c.args.patterns.now.kept.items in
     within_more may_wait kept c.args.standing.now c.loop-round.standing c.all_alone.new.standing c.loop-round.invariant
-    (within_alone may_wait kept c.loop-round.standing c.all_alone.new.standing c.in_ok-long.ensures)
+    (within_alone may_wait kept c.loop-round.standing c.all_alone.new.standing c.in_ok-more.ensures)
 
 pub loop-round-preserved : goal.loop-round-preserved
 loop-round-preserved c =
@@ -36,5 +36,5 @@ loop-round-preserved c =
     let took = subst (λ b. Takes mid turn new b) c.if-not-branch-2.false c.in_ok-take.ensures.takes in
     within_more may_wait kept c.args.standing.now c.loop-round.standing new c.loop-round.invariant
     (within_more may_wait kept c.loop-round.standing mid new
-    (within_alone may_wait kept c.loop-round.standing mid c.in_ok-long.ensures)
+    (within_alone may_wait kept c.loop-round.standing mid c.in_ok-more.ensures)
     (next_taken may_wait kept mid new turn within first took))
