@@ -15,6 +15,7 @@ use Rattle.cl_trace.specs.declared.events.Kind.{Kind}
 use Rattle.cl_machine.specs.declared.steps.Step.{Step}
 use Rattle.cl_order_laws.specs.Closed.{Node}
 use Rattle.cl_reduction_laws.specs.Below.{AreAlike, AskWithin}
+use Rattle.cl_moves.specs.Cycles.{GoesRoundAt}
 use Rattle.cl_moves.specs.Standing.{StandsAt}
 use Rattle.cl_moves.specs.Sure.{IsReadyKind}
 use Rattle.cl_moves.specs.declared.standing.Standing.{Standing}
@@ -62,6 +63,10 @@ abbrev pub GoesAlone : Bool → Standing → Standing → Type 0
 GoesAlone may_wait old new =
     (order : List ℕ) (kept : List AskedBy) → IsFirstHart order
     → LeadsOn order old new (SettlesFrom (search_of may_wait kept))
+
+-- by each order that names the first hart alone, the rank goes round by itself for ever
+abbrev pub GoesRoundAlone : Standing → Standing → ℕ → Type 0
+GoesRoundAlone old new r = (order : List ℕ) → IsFirstHart order → GoesRoundAt order old new r
 
 -- ---- what ranks ask
 

@@ -1,16 +1,17 @@
 //! Turns that need only their rank, and go on.
 
-ghost use Rattle.std.specs.Prelude.{IfOk, OnOk};
-ghost use Rattle.cl_contests.specs.Turns.{GoesAlone, IsBusyIfSome, IsBusyNext};
+ghost use Rattle.std.specs.Prelude.{◌≡◌, IfOk, OnOk};
+ghost use Rattle.cl_contests.specs.Lone.{IsTurnIfSome};
+ghost use Rattle.cl_contests.specs.Turns.{GoesAlone, GoesRoundAlone, IsBusyIfSome, IsBusyNext};
 
 use crate::patterns::Patterns;
 use cl_journal::CLOCK_MAX;
 use cl_machine::Step;
-use cl_moves::{MoveFault, Standing, Watch};
+use cl_moves::{Alone, MoveFault, Standing, Watch};
 use cl_state::Ask;
 use cl_trace::Bare;
 use rv_image_types::RANKS_MAX;
-use std::alloc::{AllocError, Global};
+use std::alloc::Global;
 
 /// The kind of a turn that needs only its rank and goes on, of a hart that asks this.
 fn busy_kind(ask: &Ask) -> Option<Bare>
@@ -25,7 +26,8 @@ fn busy_kind(ask: &Ask) -> Option<Bare>
 
 /// The next turn of a rank that may go first, if it needs only the rank and goes on.
 fn next_busy(standing: &Standing, rank: u8, patterns: &Patterns) -> Result<Option<Step>, MoveFault>
-    ensures { IfOk result (IsBusyNext patterns.now.may_wait standing.now) }
+    ensures whose { IfOk result (IsTurnIfSome rank) }
+    ensures busy { IfOk result (IsBusyNext patterns.now.may_wait standing.now) }
 {
     let place = usize::from(rank);
     if place >= standing.cluster.ranks.len() {
@@ -42,17 +44,6 @@ fn next_busy(standing: &Standing, rank: u8, patterns: &Patterns) -> Result<Optio
         return Err(MoveFault::Clock);
     }
     Ok(Some(Step::bare(rank, 0, own.clock + 1, kind)))
-}
-
-/// How a rank took turns that need only itself.
-#[derive(Clone, Copy, Drop)]
-enum Alone {
-    /// It has no more of them.
-    Done,
-    /// It came back to where it was: it takes them for ever.
-    Round,
-    /// It took as many as it was let.
-    Long,
 }
 
 /// The ranks that take no more turns by themselves for now: those that go round for ever, about which turns of others change
@@ -84,19 +75,6 @@ impl Spent {
     }
 }
 
-/// Whether a rank that is watched holds what it held after an earlier turn, if it is there.
-fn is_back(
-    alloc: Global,
-    standing: &Standing,
-    rank: u8,
-    watch: &mut Watch,
-) -> Result<bool, AllocError> {
-    match standing.cluster.ranks.get(usize::from(rank)) {
-        Some(own) => watch.is_back(alloc, own),
-        None => Ok(false),
-    }
-}
-
 /// Takes such turns of a rank, at most so many, until it comes back to where it was.
 ///
 /// Refusals: Clock, Memory. Then the standing may be anything.
@@ -107,7 +85,8 @@ fn go_alone(
     most: u64,
     patterns: &Patterns,
 ) -> Result<Alone, MoveFault>
-    ensures { OnOk result (GoesAlone patterns.now.may_wait standing.old standing.new) }
+    ensures alone { OnOk result (GoesAlone patterns.now.may_wait standing.old standing.new) }
+    ensures round { IfOk result (λ how. how ≡ Alone.Round → GoesRoundAlone standing.old standing.new rank) }
 {
     let mut watch = Watch::new();
     for _turn in 0..most {
@@ -117,7 +96,7 @@ fn go_alone(
         if !standing.take(turn)? {
             return Ok(Alone::Done);
         }
-        if is_back(alloc, standing, rank, &mut watch)? {
+        if standing.is_back(alloc, rank, &[0], &mut watch)? {
             return Ok(Alone::Round);
         }
     }

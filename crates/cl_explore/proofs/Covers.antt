@@ -1,7 +1,6 @@
 -- What nodes cover, and lists of them that grow.
-use Rattle.std.specs.Prelude.{ℕ, zero, suc, ◌+◌, ◌%◌, ◌<◌, ◌≡◌, List, [], ◌∷◌, ◌++◌, length, option_map, slice_get, slice_index, Option, Some, None}
+use Rattle.std.specs.Prelude.{ℕ, zero, suc, ◌+◌, ◌%◌, ◌<◌, ◌≡◌, List, [], ◌∷◌, ◌++◌, length, option_map, slice_get, Option, Some, None}
 use Rattle.std.proofs.Common.{refl, sym, ap, ◌∙◌, subst, arith, inl, inr}
-use Rattle.std.proofs.Math.Nat.{mod-add-mod}
 use Rattle.std.proofs.lemmas.Option.{same_Some, slice_get-map, slice_get_within}
 use Rattle.std.proofs.lemmas.List.{length-append}
 use Rattle.rv_image_types.specs.declared.images.ImageParts.{ImageParts}
@@ -13,7 +12,7 @@ use Rattle.cl_replay.specs.Kept.{RanksAt, ranks_at}
 use Rattle.cl_state.specs.Rank.{Rank}
 use Rattle.cl_state.specs.Room.{rank_of}
 use Rattle.cl_state.specs.declared.state.RankState.{RankState}
-use Rattle.cl_order_laws.specs.Closed.{IsCovered, IsDone, IsSamePlace, Node, Plans, one_more}
+use Rattle.cl_order_laws.specs.Closed.{IsCovered, IsDone, Node, Plans, one_more}
 use Rattle.cl_order_laws.specs.Laws.{AreAlike as AreSame, IsReached}
 use Rattle.cl_order_laws.specs.Sure.{Settles}
 use Rattle.cl_order_laws.proofs.Covered.{covered_among, covered_on, only_one}
@@ -21,6 +20,7 @@ use Rattle.cl_order_laws.proofs.Likeness.{itself}
 use Rattle.cl_moves.specs.Ahead.{GoesAhead}
 use Rattle.cl_moves.specs.Posts.{most_posts}
 use Rattle.cl_moves.specs.Sure.{GoesSurely}
+use Rattle.cl_moves.proofs.Cycles.{same_place}
 use Rattle.cl_moves.proofs.Surely.{alike_by, sure_ahead, sure_more, went_covers}
 use Rattle.cl_moves.specs.Standing.{IsWay, StandsAt, by_order, node_of}
 use Rattle.cl_moves.specs.declared.standing.Standing.{Standing}
@@ -66,11 +66,6 @@ covered_alike plans nodes here other i alike at = record {
   hubs = (alike.alike).hubs;
   boxes = (alike.alike).boxes;
 }
-
-pub same_place : (order : List ℕ) (n m : ℕ) → n % length order ≡ m % length order → IsSamePlace (in_slot order) n m
-same_place order n m same = λ k.
-    ap (slice_index order) (sym (mod-add-mod n (length order) k)
-    ∙ (ap (λ q. (q + k) % length order) same ∙ mod-add-mod m (length order) k))
 
 -- ---- lists that grow
 

@@ -105,11 +105,14 @@ fn go_on(
     ensures halt { IfErr result (IsHaltOf course.now.way) }
 {
     match course.way {
-        Way::Plainly => Ok(live.go_ahead(course.alloc, rank, course.order, course.most)?),
+        Way::Plainly => {
+            let how = live.go_ahead(course.alloc, rank, course.order, course.most)?;
+            Ok(!how.is_long())
+        }
         Way::AtOnce => {
-            let fewer = live.go_ahead(course.alloc, rank, course.order, course.most)?;
+            let how = live.go_ahead(course.alloc, rank, course.order, course.most)?;
             live.go_surely(course.alloc, course.order, course.most)?;
-            Ok(fewer)
+            Ok(!how.is_long())
         }
         Way::First => {
             let long = go_uncontested(course, live, Some(rank), missing)?;

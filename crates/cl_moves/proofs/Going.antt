@@ -137,6 +137,10 @@ module _ (order : List ℕ) (old : Standing) (rank : ℕ) (e : Step) (turn : IsA
   hart =
       turn.hart_is ∙ ap (in_slot order) (sym (ap here.had turn.rank_is ∙ stands.had rank turn.had turn.turns))
 
+  -- it needs only its rank
+  needs : NeedsOnlyRank (asked (rank_of turn.own) e.hart)
+  needs = needs_of (asked (rank_of turn.own) e.hart) e.kind turn.alone
+
   -- it is a step of the machine
   step : IsStep here.cluster e (only_told here.cluster e (rank_of turn.own) Answer.Alone)
   step = (
@@ -146,6 +150,22 @@ module _ (order : List ℕ) (old : Standing) (rank : ℕ) (e : Step) (turn : IsA
     turn.low,
     case_is here.cluster e (rank_of turn.own) turn.stamp_is (asked (rank_of turn.own) e.hart) e.kind refl turn.alone,
   )
+
+-- whichever node the standing is, the turn is its rank's next one there, and needs only the rank
+abbrev pub NeedsOnlyIts : List ℕ → Standing → Step → Type 0
+NeedsOnlyIts order standing e =
+    (image : ImageParts) (here : Node) → StandsAt image standing here
+    → (rank : Rank) × (slice_get here.cluster.ranks e.rank ≡ Some rank) × (e.hart ≡ by_order order e.rank (here.had e.rank))
+    × NeedsOnlyRank (asked rank e.hart)
+
+pub alone_needs : (order : List ℕ) (old : Standing) (rank : ℕ) (e : Step) → IsAloneTurn order old rank e
+    → NeedsOnlyIts order old e
+alone_needs order old rank e turn = λ image here stands. (
+  rank_of turn.own,
+  there order old rank e turn image here stands,
+  hart order old rank e turn image here stands,
+  needs order old rank e turn image here stands,
+)
 
 pub ahead_one : (order : List ℕ) (old new : Standing) (rank : ℕ) (e : Step) → IsAloneTurn order old rank e → Took old e new
     → GoesAhead order old new
@@ -160,7 +180,7 @@ ahead_one order old new rank e turn took = λ image start here stands way.
       led.2,
       led.3,
       went_one (by_order order) here led.0 e own (there order old rank e turn image here stands) h
-          (needs_of (asked own e.hart) e.kind turn.alone) case,
+          (needs order old rank e turn image here stands) case,
     )
 
 pub ahead_none : (order : List ℕ) (old new : Standing) (rank : ℕ) (e : Step) → IsAloneTurn order old rank e

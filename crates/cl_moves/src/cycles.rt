@@ -4,9 +4,9 @@
 //! stretch has a whole cycle, each time that the rank goes round it comes to this state, wherever it came into the cycle.
 //! A stretch may begin before the cycle, so a state is chosen anew after 16 turns, 32, 64, and so on.
 
-ghost use Rattle.std.specs.Prelude.{◌≡◌, IfOk, None, OnOk, true};
+ghost use Rattle.std.specs.Prelude.{◌≡◌, ◌↔◌, IfOk, IsTrue, None, OnOk, true};
 ghost use Rattle.cl_state.specs.Room.{rank_of};
-ghost use Rattle.cl_moves.specs.Cycles.{IsBack, KeepsShown};
+ghost use Rattle.cl_moves.specs.Cycles.{IsBack, KeepsShown, kept_in};
 
 use crate::same::is_same_rank;
 use cl_state::{KeptRank, RankState};
@@ -20,6 +20,29 @@ const FIRST_CHOICE: u64 = 16;
 /// How often all that the rank holds is kept or compared in one stretch: its registers may be the same over and over while its
 /// memory isn't.
 const LOOKS: u8 = 32;
+
+/// How a rank took turns that need only itself.
+#[derive(Clone, Copy, Drop)]
+pub enum Alone {
+    /// It has no more of them.
+    Done,
+    /// It came back to where it was: it takes them for ever.
+    Round,
+    /// It took as many as it was let.
+    Long,
+}
+
+impl Alone {
+    /// Whether it took as many as it was let.
+    pub fn is_long(self) -> bool
+        ensures { IsTrue result ↔ (self ≡ Alone.Long) }
+    {
+        match self {
+            Alone::Long => true,
+            Alone::Done | Alone::Round => false,
+        }
+    }
+}
 
 /// How a hart is ordered beside another one.
 #[derive(Clone, Copy, Drop)]
@@ -87,7 +110,7 @@ fn first_running(harts: &[Hart]) -> usize {
 impl Watch {
     /// A rank that wasn't shown yet.
     pub fn new() -> Watch
-        ensures { result.kept ≡ None }
+        ensures { kept_in result ≡ None }
     {
         Watch {
             turns: 0,
@@ -102,7 +125,7 @@ impl Watch {
 
     /// Begins a stretch with this state.
     fn renew(&mut self, own: &RankState)
-        ensures { self.new.kept ≡ None }
+        ensures { kept_in self.new ≡ None }
     {
         self.renewal = self.renewal.saturating_mul(2);
         self.kept = None;
@@ -115,8 +138,8 @@ impl Watch {
 
     /// Whether the rank holds what was kept of it. If nothing is kept, this is. Only so often in one stretch.
     fn compare(&mut self, alloc: Global, own: &RankState) -> Result<bool, AllocError>
-        ensures back { IfOk result (λ back. back ≡ true → IsBack self.old.kept (rank_of own.now)) }
-        ensures kept { OnOk result (KeepsShown self.old.kept (rank_of own.now) self.new.kept) }
+        ensures back { IfOk result (λ back. back ≡ true → IsBack (kept_in self.old) (rank_of own.now)) }
+        ensures kept { OnOk result (KeepsShown (kept_in self.old) (rank_of own.now) (kept_in self.new)) }
     {
         if self.looks >= LOOKS {
             return Ok(false);
@@ -133,8 +156,8 @@ impl Watch {
 
     /// The same where the hart isn't above the lowest one.
     fn look(&mut self, alloc: Global, own: &RankState, hart: &Hart) -> Result<bool, AllocError>
-        ensures back { IfOk result (λ back. back ≡ true → IsBack self.old.kept (rank_of own.now)) }
-        ensures kept { OnOk result (KeepsShown self.old.kept (rank_of own.now) self.new.kept) }
+        ensures back { IfOk result (λ back. back ≡ true → IsBack (kept_in self.old) (rank_of own.now)) }
+        ensures kept { OnOk result (KeepsShown (kept_in self.old) (rank_of own.now) (kept_in self.new)) }
     {
         match order_of_harts(hart, &self.lowest) {
             Order::Above => Ok(false),
@@ -148,10 +171,10 @@ impl Watch {
     }
 
     /// Shows the rank as it is after a turn. Answers whether it holds what it held after an earlier one, as far as that was
-    /// kept: then it goes round by itself for ever. Only want of memory is refused.
-    pub fn is_back(&mut self, alloc: Global, own: &RankState) -> Result<bool, AllocError>
-        ensures back { IfOk result (λ back. back ≡ true → IsBack self.old.kept (rank_of own.now)) }
-        ensures kept { OnOk result (KeepsShown self.old.kept (rank_of own.now) self.new.kept) }
+    /// kept. Only want of memory is refused.
+    pub(crate) fn is_back(&mut self, alloc: Global, own: &RankState) -> Result<bool, AllocError>
+        ensures back { IfOk result (λ back. back ≡ true → IsBack (kept_in self.old) (rank_of own.now)) }
+        ensures kept { OnOk result (KeepsShown (kept_in self.old) (rank_of own.now) (kept_in self.new)) }
     {
         self.turns = self.turns.saturating_add(1);
         if self.turns >= self.renewal {

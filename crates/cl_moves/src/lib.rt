@@ -14,7 +14,7 @@ mod standing;
 mod sure;
 mod turns;
 
-pub use cycles::Watch;
+pub use cycles::{Alone, Watch};
 pub use ends::{is_done, is_end, is_in_vain};
 pub use faults::MoveFault;
 pub use single::Whose;

@@ -2,10 +2,11 @@
 
 ghost use Rattle.std.specs.Prelude.{◌≡◌, ◌<◌, ◌++◌, ◌∷◌, [], IfOk, OnOk, length, replicate, true};
 ghost use Rattle.cl_moves.specs.Ahead.{GoesAhead, IsAloneIfSome, IsAloneNext};
+ghost use Rattle.cl_moves.specs.Cycles.{GoesRoundAt, IsBackAt, KeepsAt};
 ghost use Rattle.cl_moves.specs.Standing.{IsNextHart, IsStart, Takes};
 ghost use Rattle.cl_moves.specs.Whole.{Follows, IsAskedBy, requested};
 
-use crate::cycles::Watch;
+use crate::cycles::{Alone, Watch};
 use crate::ends::is_done;
 use crate::faults::MoveFault;
 use cl_journal::CLOCK_MAX;
@@ -170,26 +171,32 @@ impl Standing {
         Ok(Some(Step::bare(rank, hart, own.clock + 1, kind)))
     }
 
-    /// Whether a rank that is watched holds what it held after an earlier turn, if this is the first place of those that turns
-    /// come to.
-    fn is_back(
+    /// Shows a rank that is watched, if the first place of the order is next in it. Answers whether it holds what it held at
+    /// such a place before, as far as that was kept. Only want of memory is refused.
+    pub fn is_back(
         &self,
         alloc: Global,
         rank: u8,
-        place: u64,
+        order: &[u8],
         watch: &mut Watch,
-    ) -> Result<bool, AllocError> {
-        if place != 0 {
+    ) -> Result<bool, AllocError>
+        requires { 0 < length order.now }
+        ensures back { IfOk result (λ back. back ≡ true → IsBackAt order.now self.now rank watch.old) }
+        ensures kept { OnOk result (KeepsAt order.now self.now rank watch.old watch.new) }
+    {
+        let place = usize::from(rank);
+        if place >= self.had.len() || place >= self.cluster.ranks.len() {
             return Ok(false);
         }
-        match self.cluster.ranks.get(usize::from(rank)) {
-            Some(own) => watch.is_back(alloc, own),
-            None => Ok(false),
+        let had = self.had[place];
+        if had % order.len() as u64 != 0 {
+            return Ok(false);
         }
+        let own = &self.cluster.ranks[place];
+        watch.is_back(alloc, own)
     }
 
-    /// Takes turns of a rank that need only the rank, at most so many. Answers whether it took fewer, or came back to where
-    /// it was, at the same place of the order.
+    /// Takes turns of a rank that need only the rank, at most so many, until it comes back to where it was.
     ///
     /// Refusals: Clock, Memory. Then the standing may be anything.
     pub fn go_ahead(
@@ -198,29 +205,28 @@ impl Standing {
         rank: u8,
         order: &[u8],
         most: u64,
-    ) -> Result<bool, MoveFault>
+    ) -> Result<Alone, MoveFault>
         requires { 0 < length order.now }
-        ensures { OnOk result (GoesAhead order.now self.old self.new) }
+        ensures ahead { OnOk result (GoesAhead order.now self.old self.new) }
+        ensures round { IfOk result (λ how. how ≡ Alone.Round → GoesRoundAt order.now self.old self.new rank) }
     {
         let mut watch = Watch::new();
-        for turn in 0..most {
-            let Some(next) = self.next_alone(rank, order)? else {
-                return Ok(true);
+        for _turn in 0..most {
+            let Some(turn) = self.next_alone(rank, order)? else {
+                return Ok(Alone::Done);
             };
-            if !self.take(next)? {
-                return Ok(true);
+            if !self.take(turn)? {
+                return Ok(Alone::Done);
             }
-            // behind turns of one and the same hart of the order
-            let place = turn % order.len() as u64;
-            if self.is_back(alloc, rank, place, &mut watch)? {
-                return Ok(true);
+            if self.is_back(alloc, rank, order, &mut watch)? {
+                return Ok(Alone::Round);
             }
         }
-        Ok(false)
+        Ok(Alone::Long)
     }
 
-    /// Lets each rank take its turns that need only itself, at most so many. Answers the first rank that would take more,
-    /// if there is one.
+    /// Lets each rank take its turns that need only itself, at most so many, until it comes back to where it was. Answers the
+    /// first rank that took as many, if there is one.
     ///
     /// Refusals: Clock, Memory. Then the standing may be anything.
     pub fn settle(
@@ -234,8 +240,8 @@ impl Standing {
     {
         let mut long = None;
         for rank in 0..RANKS_MAX {
-            let fewer = self.go_ahead(alloc, rank, order, most)?;
-            if !fewer && long.is_none() {
+            let how = self.go_ahead(alloc, rank, order, most)?;
+            if how.is_long() && long.is_none() {
                 long = Some(rank);
             }
         }

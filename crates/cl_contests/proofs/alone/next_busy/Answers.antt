@@ -4,7 +4,7 @@ use Rattle.cl_machine.specs.declared.steps.Step.{Step}
 use Rattle.cl_state.specs.Asked.{asked}
 use Rattle.cl_state.specs.Room.{rank_of}
 use Rattle.cl_trace.specs.Traces.{kind_of_bare}
-use Rattle.cl_contests.specs.Turns.{IsBusyKind, MayGoFirst}
+use Rattle.cl_contests.specs.Turns.{IsBusyKind, IsBusyTurn, MayGoFirst}
 use Rattle.cl_contests.proofs.alone.next_busy.Goals as goal
 
 pub returns : goal.returns
@@ -17,7 +17,7 @@ returns c =
     let hart : (c.bare.result).hart ≡ 0 = ap (λ (e : Step). e.hart) c.bare.ensures in
     let stamp : (c.bare.result).stamp ≡ own.clock + 1 = ap (λ (e : Step). e.stamp) c.bare.ensures in
     let kind : (c.bare.result).kind ≡ kind_of_bare c.in-Some.kind = ap (λ (e : Step). e.kind) c.bare.ensures in
-    record {
+    let busy : IsBusyTurn c.args.patterns.now.may_wait c.args.standing.now c.bare.result = record {
       own = own;
       there = subst (λ r. slice_get ranks.items r ≡ Some own) (c.from-place.ensures ∙ sym rank) here;
       hart_is = hart;
@@ -28,4 +28,5 @@ returns c =
           (subst (λ a. IsBusyKind a (kind_of_bare c.in-Some.kind)) c.in_ok-ask.ensures c.in-Some.ensures);
       anyway = subst (MayGoFirst c.args.patterns.now.may_wait c.args.standing.now) (sym rank)
           (c.hold_back.ensures c.if-hold_back.false);
-    }
+    } in
+    record { whose = (rank, hart); busy = busy }

@@ -7,4 +7,4 @@ loop-rank-init c = ahead_stays c.args.order.now c.args.self.now
 pub loop-rank-preserved : goal.loop-rank-preserved
 loop-rank-preserved c =
     ahead_more c.args.order.now c.args.self.now c.loop-rank.self c.go_ahead.new.self c.loop-rank.invariant
-    c.in_ok-fewer.ensures
+    c.in_ok-how.ensures.ahead

@@ -17,4 +17,4 @@ returns c =
     sure_more order c.args.self.now c.take.new.self c.go_ahead.new.self
     (sure_taken order c.args.self.now c.take.new.self c.args.rank c.in-Some.turn turn c.in_ok-take.field-0
     c.in_ok-take.ensures.takes)
-    (sure_ahead order c.take.new.self c.go_ahead.new.self c.in_ok-go_ahead.ensures)
+    (sure_ahead order c.take.new.self c.go_ahead.new.self c.in_ok-go_ahead.ensures.ahead)
