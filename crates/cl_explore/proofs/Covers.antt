@@ -20,7 +20,7 @@ use Rattle.cl_order_laws.proofs.Likeness.{itself}
 use Rattle.cl_moves.specs.Ahead.{GoesAhead}
 use Rattle.cl_moves.specs.Posts.{most_posts}
 use Rattle.cl_moves.specs.Sure.{GoesSurely}
-use Rattle.cl_moves.proofs.Cycles.{same_place}
+use Rattle.cl_moves.proofs.Rounds.{same_place}
 use Rattle.cl_moves.proofs.Surely.{alike_by, sure_ahead, sure_more, went_covers}
 use Rattle.cl_moves.specs.Standing.{IsWay, StandsAt, by_order, node_of}
 use Rattle.cl_moves.specs.declared.standing.Standing.{Standing}

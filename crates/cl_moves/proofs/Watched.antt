@@ -1,6 +1,6 @@
 -- A rank that is watched as it takes turns by itself.
-use Rattle.std.specs.Prelude.{ℕ, ◌+◌, ◌%◌, ◌<◌, ◌≤◌, ◌≡◌, List, length, slice_get, Option, Some, None}
-use Rattle.std.proofs.Common.{refl, sym, ap, ◌∙◌, subst, arith, inl, inr}
+use Rattle.std.specs.Prelude.{ℕ, ◌+◌, ◌%◌, ◌≤◌, ◌≡◌, List, length, slice_get, Option, Some, None}
+use Rattle.std.proofs.Common.{refl, sym, ◌∙◌, subst, arith, inl, inr}
 use Rattle.std.proofs.lemmas.Option.{same_Some}
 use Rattle.rv_image_types.specs.declared.images.ImageParts.{ImageParts}
 use Rattle.cl_deeds.specs.Orders.{in_slot}
@@ -14,7 +14,7 @@ use Rattle.cl_moves.specs.Cycles.{GoesRound, GoesRoundAt, IsBack, IsBackAt, IsSh
 use Rattle.cl_moves.specs.Standing.{IsWay, StandsAt, Took, by_order, node_of}
 use Rattle.cl_moves.specs.declared.cycles.Watch.{Watch}
 use Rattle.cl_moves.specs.declared.standing.Standing.{Standing}
-use Rattle.cl_moves.proofs.Cycles.{ahead_had, ahead_more, ahead_site, goes_round, same_but_clock}
+use Rattle.cl_moves.proofs.Rounds.{ahead_had, ahead_more, ahead_site, goes_round, same_but_clock}
 use Rattle.cl_moves.proofs.Going.{NeedsOnlyIts, went_one}
 use Rattle.cl_moves.proofs.Resting.{own_at}
 use Rattle.cl_moves.proofs.Ways.{had_here}

@@ -1,8 +1,8 @@
-use Rattle.std.proofs.Common.{◌∙◌, subst, sym, true}
+use Rattle.std.proofs.Common.{◌∙◌, subst, sym}
 use Rattle.cl_moves.specs.Ahead.{IsAloneNext}
 use Rattle.cl_moves.specs.Cycles.{kept_in}
 use Rattle.cl_moves.specs.Standing.{Takes}
-use Rattle.cl_moves.proofs.Cycles.{same_place}
+use Rattle.cl_moves.proofs.Rounds.{same_place}
 use Rattle.cl_moves.proofs.Going.{ahead_more, ahead_one, ahead_stays, ahead_taken, alone_needs}
 use Rattle.cl_moves.proofs.Watched.{trail_back, trail_shown, trail_starts, trail_taken}
 use Rattle.cl_moves.proofs.standing.Standing.go_ahead.Goals as goal

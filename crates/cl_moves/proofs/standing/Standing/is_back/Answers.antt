@@ -16,7 +16,7 @@ returns c =
       own = own;
       had = count;
       there = subst (λ r. slice_get ranks.items r ≡ Some own) c.from-place.ensures
-          (slice_get_read ranks.items c.len-2.result c.from-place.result own (c.len-2.ensures ∙ ranks.ok.0)
+          (slice_get_read ranks.items c.len-else-place-len.result c.from-place.result own (c.len-else-place-len.ensures ∙ ranks.ok.0)
           c.if-place-len-2.false c.index-own.ensures);
       turns = subst (λ r. slice_get had.items r ≡ Some count) c.from-place.ensures
           (slice_get_read had.items c.len.result c.from-place.result count (c.len.ensures ∙ had.ok.0) c.if-place-len.false
