@@ -1,5 +1,5 @@
 -- The search as a whole.
-use Rattle.std.specs.Prelude.{ℕ, zero, suc, ◌+◌, ◌<◌, ◌≤◌, ◌≡◌, ◌⊎◌, List, [], ◌∷◌, ◌++◌, length, option_map, reverse, slice_get, Option, None, Some, Bool, true, false, Result, Ok, Err, IfOk, IfSome, is_some, map}
+use Rattle.std.specs.Prelude.{ℕ, zero, suc, ◌+◌, ◌-◌, ◌<◌, ◌≤◌, ◌≡◌, ◌⊎◌, List, [], ◌∷◌, ◌++◌, length, option_map, reverse, slice_get, Option, None, Some, Bool, true, false, Result, Ok, Err, IfOk, IfSome, is_some, map}
 use Rattle.std.proofs.Common.{refl, sym, ap, ◌∙◌, subst, arith, inl, inr}
 use Rattle.std.proofs.lemmas.Bool.{cases_eq}
 use Rattle.std.proofs.lemmas.List.{reverse-append, reverse-reverse}
@@ -88,6 +88,7 @@ pub record SoFar (how : How) (image : ImageParts) (order : List ℕ) (start : No
       → (k : ℕ) × (slice_get ends k ≡ Some i)
   pub stuck : IsImage image → (k : ℕ) (company : Company) → slice_get companies k ≡ Some company
       → IsCompanyAt nodes company
+  pub visited : (k : ℕ) (company : Company) → slice_get companies k ≡ Some company → company.node < done
   pub judged : IsImage image → (i : ℕ) (node : Node) → i < done → slice_get nodes i ≡ Some node
       → IsJudged companies i node.cluster
   pub unneeded : IsImage image → waits_in how ≡ true → (i : ℕ) (node : Node) → i < done → slice_get nodes i ≡ Some node
@@ -111,6 +112,8 @@ none_so_far how image order start search ends companies begun none nobody = reco
       let no : slice_get [] k ≡ Some i = subst (λ xs. slice_get xs k ≡ Some i) none at in absurd (cc);
   all = λ i node low at end. absurd (omega (arith, low));
   stuck = λ right k company at.
+      let no : slice_get [] k ≡ Some company = subst (λ xs. slice_get xs k ≡ Some company) nobody at in absurd (cc);
+  visited = λ k company at.
       let no : slice_get [] k ≡ Some company = subst (λ xs. slice_get xs k ≡ Some company) nobody at in absurd (cc);
   judged = λ right i node low at. absurd (omega (arith, low));
   unneeded = λ right waits i node low at one. absurd (omega (arith, low));
@@ -260,6 +263,11 @@ module _ (how : How) (image : ImageParts) (order : List ℕ) (start : Node) (old
                 subst (IsVerdictOf (node.0).cluster) last.1 ((far.holds).stuck right),
               )
             ];
+        visited = λ k company at.
+            elim (noted_before companies after (option_map (λ ranks. ranks.items) visit.stuck) done stuck k company at) [
+              | inl before ↦ let low = explored.visited k company before in omega (arith, low)
+              | inr last ↦ let here = last.0 in omega (arith, here)
+            ];
         judged = λ right.
             each (λ j y. IsJudged after j y.cluster)
             (noted_now companies after (option_map (λ ranks. ranks.items) visit.stuck) done (node.0).cluster stuck
@@ -368,7 +376,7 @@ module _ (how : How) (image : ImageParts) (order : List ℕ) (start : Node) (sea
       let k = explored.all one.0 one.1 (low one.0 one.1 one.2) one.2 one.3 in
       (k.0, one.0, one.1, k.1, one.2, one.4)
 
-  pub tells_all : length search.nodes.items ≤ done + found.left
+  pub tells_all : done + found.left ≡ length search.nodes.items
       → (e : ExploredFrom image order start found) × (e.how ≡ how)
   tells_all many = (
     record {
@@ -388,6 +396,8 @@ module _ (how : How) (image : ImageParts) (order : List ℕ) (start : Node) (sea
       sound = explored.told;
       told = λ i node visited ended. explored.all i node (low i visited.0) visited.1 ended;
       stuck = explored.stuck;
+      visited = λ k company at.
+          let low = explored.visited k company at in omega (arith, low, many, ((explored.found).are).many);
       judged = λ right i node visited. explored.judged right i node (low i visited.0) visited.1;
       all = λ is. all_ends (omega (arith, is, many));
       waits = λ is. may_wait_in how (sym may_wait ∙ is);
@@ -438,11 +448,13 @@ pub tells_from : (how : How) (order : List ℕ) (standing : Standing) (search : 
     (done : ℕ) → HasRoom how standing.whole
     → SoFarFrom how order standing search found.ends found.companies done → found.kept ≡ search.nodes.items
     → found.leads ≡ search.leads.items → found.may_wait ≡ waits_in how
-    → length search.nodes.items ≤ done + found.left
+    → found.left ≡ length search.nodes.items - done
     → ExploresFrom how order standing found
 tells_from how order standing search found done room so_far kept leads may_wait many = λ image here stands way begins_well.
-    tells_all how image order here search found done (so_far image here stands way).0 kept leads may_wait
-    (standing.steps.items, way) (subst (HasRoom how) stands.whole room) begins_well many
+    let far = so_far image here stands way in
+    let most = far.1 in
+    tells_all how image order here search found done far.0 kept leads may_wait
+    (standing.steps.items, way) (subst (HasRoom how) stands.whole room) begins_well (omega (arith, many, most))
 
 -- from the loaded cluster
 pub explored_start : (how : How) (image : ImageParts) (order : List ℕ) (standing : Standing) (found : Findings)

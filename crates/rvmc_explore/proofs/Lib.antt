@@ -1,3 +1,5 @@
+pub mod Beside
+pub mod Unmarked
 pub mod Listed
 pub mod Marked
 pub mod Endless
@@ -8,3 +10,4 @@ pub mod EachStart
 pub mod Apart
 pub mod Heard
 pub mod Places
+pub mod Begun

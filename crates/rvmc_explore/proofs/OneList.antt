@@ -29,7 +29,7 @@ use Rattle.rvmc_explore.specs.OneList.{LeadsToText, OneListLaw, TellsEnd, lines_
 use Rattle.rvmc_explore.specs.Outcomes.{IsListOf, IsOutcome, any_need}
 use Rattle.rvmc_explore.specs.Recorded.{Leads, LeadsTo, numbered}
 use Rattle.rvmc_explore.proofs.Listed.{end_told}
-use Rattle.rvmc_explore.proofs.ToEnds.{numbered_at, told_way}
+use Rattle.rvmc_explore.proofs.ToEnds.{led_there, node_there, numbered_at}
 use Rattle.rvmc_explore.specs.Telling.{Tells, any_end, has_stuck, holds_of, is_some_company, search_status, trapped_in, waits_in}
 use Rattle.rvmc_explore.specs.declared.outcomes.Outcome.{Outcome}
 use Rattle.rvmc_explore.proofs.EndTexts.{found_way, lines_alike, lines_of_states, ranks_kept, traps_alike, waits_alike, waits_of_states}
@@ -41,7 +41,7 @@ module _ (image : ImageParts) (order : List ℕ) (buffered : Bool) (states turns
   abbrev explored : Explored image order listed.found
   explored = (listed.searched).explored
 
-  tells_end : (steps : List Step) (end : Cluster) → IsRun (loaded_cluster image) steps end
+  pub tells_end : (steps : List Step) (end : Cluster) → IsRun (loaded_cluster image) steps end
       → FollowPlans (by_order order) none_had steps → IsEnd (by_order order) end
       → TellsEnd image order buffered states turns told listed end
   tells_end steps end run follow is =
@@ -76,10 +76,10 @@ module _ (image : ImageParts) (order : List ℕ) (buffered : Bool) (states turns
 -- ---- ranks that need buffers
 
 -- where runs never come to any, no outcome of any search is of such ranks
-unneeded : (image : ImageParts) (order : List ℕ) (found : Findings) (outcome : Outcome)
+pub unneeded : (image : ImageParts) (order : List ℕ) (found : Findings) (outcome : Outcome)
     → NeverNeeds image order (first_node image) → IsOutcome order image found outcome → outcome.need ≡ true → ⊥
 unneeded image order found outcome never (inl end) is = let no : true ≡ false = sym is ∙ end.no_need in absurd (cc)
-unneeded image order found outcome never (inr (inl stuck)) is = let no : true ≡ false = sym is ∙ stuck.6 in absurd (cc)
+unneeded image order found outcome never (inr (inl stuck)) is = let no : true ≡ false = sym is ∙ stuck.no_need in absurd (cc)
 unneeded image order found outcome never (inr (inr needs)) is =
     let there = (needs.node).cluster in
     let count = (comes_reached image outcome.way there (needs.led).run).count in
@@ -93,7 +93,7 @@ bools true b there back = sym (there refl)
 bools false true there back = back refl
 bools false false there back = refl
 
-any_some : {A : Type 0} (p : A → Bool) (xs : List A) → list_any p xs ≡ true
+pub any_some : {A : Type 0} (p : A → Bool) (xs : List A) → list_any p xs ≡ true
     → (k : ℕ) × (x : A) × (slice_get xs k ≡ Some x) × (p x ≡ true)
 any_some {A = A} p [] is = absurd (cc)
 any_some {A = A} p (x ∷ xs) is = of (λ any. any_some p xs any) (p x) refl is
@@ -225,25 +225,17 @@ status_same : (left other status its : ℕ) (a b c x y z : Bool) → left ≡ 0 
 status_same left other status its a b c x y z whole all is are first second third =
     is ∙ (λ i. search_status ((whole ∙ sym all) i) (first i) (second i) (third i)) ∙ sym are
 
-leads_there : (image : ImageParts) (order : List ℕ) (steps : List Step) (o : Option Outcome)
-    → Leads image order o (Some steps) → (outcome : Outcome) × (o ≡ Some outcome) × LeadsTo image order outcome steps
-leads_there image order steps None leads = absurd leads
-leads_there image order steps (Some outcome) leads = (outcome, refl, leads)
+leads_there : (image : ImageParts) (order : List ℕ) (found : Findings) (steps : List Step) (o : Option Outcome)
+    → Leads image order found o (Some steps) → (outcome : Outcome) × (o ≡ Some outcome) × LeadsTo image order found outcome steps
+leads_there image order found steps None leads = absurd leads
+leads_there image order found steps (Some outcome) leads = (outcome, refl, leads)
 
-leads_to_text : (image : ImageParts) (order : List ℕ) (told : List Outcome) (number : ℕ) (steps : List Step)
-    → Leads image order (numbered told number) (Some steps) → LeadsToText image order told number steps
-leads_to_text image order told number steps leads =
-    let led = leads_there image order steps (numbered told number) leads in
+leads_to_text : (image : ImageParts) (order : List ℕ) (found : Findings) (told : List Outcome) (number : ℕ) (steps : List Step)
+    → Leads image order found (numbered told number) (Some steps) → LeadsToText image order found told number steps
+leads_to_text image order found told number steps leads =
+    let led = leads_there image order found steps (numbered told number) leads in
     let at = numbered_at told number led.0 led.1 in
-    record {
-      end = (led.2.node).cluster;
-      run = led.2.run;
-      outcome = led.0;
-      place = at.0;
-      numbered_from_1 = at.1;
-      there = at.2;
-      told_at = led.2.told_at;
-    }
+    record { outcome = led.0; place = at.0; numbered_from_1 = at.1; there = at.2; leads = led.2 }
 
 -- no list tells of ranks that need buffers where runs never come to any
 none_needed : (image : ImageParts) (order : List ℕ) (copied : Bool) (more longer : ℕ) (other : List Outcome)
@@ -259,8 +251,8 @@ none_needed image order copied more longer other listed never = of (any_need oth
 pub one_list_law : OneListLaw
 one_list_law = record {
   each = λ image order buffered states turns told listed k outcome at.
-      told_way image order (first_node image) listed.found (listed.searched).explored outcome
-      ((listed.are).each k outcome at);
+      let there = node_there image order listed.found outcome ((listed.are).each k outcome at) in
+      (there.0, there.1, led_there image order listed.found outcome there.0 there.1);
   every = λ image order buffered states turns told listed whole steps end run follow is.
       tells_end image order buffered states turns told listed whole steps end run follow is;
   ends = λ image order buffered copied states turns more longer told other one listed whole k i node at there.
@@ -271,15 +263,16 @@ one_list_law = record {
       tells_end image order copied more longer other listed whole way.0 node.cluster (way.1).run (way.1).follow
       (subst (λ (n : Node). IsEnd (by_order order) n.cluster) same end.2);
   record_leads = λ image order buffered states turns number steps recorded.
-      leads_to_text image order recorded.told number steps recorded.leads;
+      leads_to_text image order (recorded.listed).found recorded.told number steps recorded.leads;
   record_leads_from = λ image start states turns number steps recorded.
-      leads_to_text image start.harts recorded.told number steps recorded.leads;
+      leads_to_text image start.harts (recorded.listed).found recorded.told number steps recorded.leads;
   records = λ image order buffered copied states turns more longer number steps other recorded listed whole.
-      let led = leads_there image order steps (numbered recorded.told number) recorded.leads in
-      let way = led.2.way in (
+      let found = (recorded.listed).found in
+      let led = leads_there image order found steps (numbered recorded.told number) recorded.leads in
+      let way = led_there image order found led.0 led.2.node led.2.is in (
         (led.2.node).cluster,
         led.2.run,
-        λ is. tells_end image order copied more longer other listed whole led.2.turns (led.2.node).cluster way.run way.follow is,
+        λ is. tells_end image order copied more longer other listed whole led.0.way (led.2.node).cluster way.run way.follow is,
       );
   none_need = λ image order buffered copied states turns more longer text status other one whole waiting listed.
       none_needed image order copied more longer other listed (one.none_need whole waiting);

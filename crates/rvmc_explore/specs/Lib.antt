@@ -3,6 +3,7 @@ pub mod Needs
 pub mod Searched
 pub mod Marks
 pub mod Endless
+pub mod Beside
 pub mod Outcomes
 pub mod InnerOutcomes
 pub mod Telling
@@ -15,4 +16,6 @@ pub mod StatusLaw
 pub mod OneList
 pub mod Starting
 pub mod SplitLaw
+pub mod BegunLaw
+pub mod BesideLaw
 pub mod Below

@@ -9,10 +9,10 @@ use Rattle.cl_machine.specs.declared.steps.Step.{Step}
 use Rattle.cl_order_laws.specs.Closed.{FollowPlans, IsEnd, Node, none_had}
 use Rattle.cl_explore.specs.Below.{IsOrder}
 use Rattle.cl_moves.specs.Standing.{IsWay, by_order, first_node}
-use Rattle.cl_explore.specs.Ends.{AreAlikeEnds}
+use Rattle.cl_explore.specs.Ends.{AreAlikeEnds, Findings}
 use Rattle.rvmc_explore.specs.Ends.{end_rank_text, one_waits}
-use Rattle.rvmc_explore.specs.Outcomes.{HasBody, IsEndBody, IsListOf, IsTextAt, any_need}
-use Rattle.rvmc_explore.specs.Recorded.{RecordsEnd}
+use Rattle.rvmc_explore.specs.Outcomes.{HasBody, IsEndBody, IsListOf, IsOutcomeAt, any_need}
+use Rattle.rvmc_explore.specs.Recorded.{LeadsTo, RecordsEnd}
 use Rattle.rvmc_explore.specs.Starting.{RecordsEndBehind}
 use Rattle.rvmc_explore.specs.Telling.{Tells}
 use Rattle.rvmc_starts.specs.declared.starts.Start.{Start}
@@ -47,26 +47,25 @@ pub record TellsEnd (image : ImageParts) (order : List ℕ) (buffered : Bool) (s
   pub begins : body ≡ rank_lines order end ++ waiting
   pub alone : some_waits order end ≡ false → waiting ≡ []
 
--- the steps are a run to a cluster of which the text of this number in the list is told
-pub record LeadsToText (image : ImageParts) (order : List ℕ) (told : List Outcome) (number : ℕ) (steps : List Step)
-    : Type 0 where
-  pub end : Cluster
-  pub run : IsRun (loaded_cluster image) steps end
+-- the steps are a run to the node of which the text of this number in the list is told
+pub record LeadsToText (image : ImageParts) (order : List ℕ) (found : Findings) (told : List Outcome) (number : ℕ)
+    (steps : List Step) : Type 0 where
   pub outcome : Outcome
   pub place : ℕ
   pub numbered_from_1 : number ≡ suc place
   pub there : slice_get told place ≡ Some outcome
-  pub told_at : IsTextAt image order end outcome.body.items
+  pub leads : LeadsTo image order found outcome steps
 
 -- ---- the laws
 
 -- of lists of one image and one order, whatever their bounds. Where a premise says so, a search left no state
 pub record OneListLaw : Type 0 where
-  -- each text is told of a cluster to which a run by the order leads, with whatever bounds
+  -- each text is told of the node to which the outcome's turns lead by the order, with whatever bounds
   pub each : (image : ImageParts) (order : List ℕ) (buffered : Bool) (states turns : ℕ) (told : List Outcome)
-      → IsListOf image order buffered states turns told → (k : ℕ) (outcome : Outcome) → slice_get told k ≡ Some outcome
-      → (steps : List Step) × (node : Node) × IsWay (by_order order) (first_node image) steps node
-      × IsTextAt image order node.cluster outcome.body.items
+      → (listed : IsListOf image order buffered states turns told) → (k : ℕ) (outcome : Outcome)
+      → slice_get told k ≡ Some outcome
+      → (node : Node) × IsOutcomeAt order image listed.found outcome node
+      × IsWay (by_order order) (first_node image) outcome.way node
   -- each tells the end of every run by the order
   pub every : (image : ImageParts) (order : List ℕ) (buffered : Bool) (states turns : ℕ) (told : List Outcome)
       → (listed : IsListOf image order buffered states turns told) → (listed.found).left ≡ 0
@@ -84,11 +83,11 @@ pub record OneListLaw : Type 0 where
   -- the record of a number leads to the text of this number, in its list, with whatever bounds
   pub record_leads : (image : ImageParts) (order : List ℕ) (buffered : Bool) (states turns number : ℕ) (steps : List Step)
       → (recorded : RecordsEnd image order buffered states turns number (Some steps))
-      → LeadsToText image order recorded.told number steps
+      → LeadsToText image order (recorded.listed).found recorded.told number steps
   -- and so does that behind a start
   pub record_leads_from : (image : ImageParts) (start : Start) (states turns number : ℕ) (steps : List Step)
       → (recorded : RecordsEndBehind image start states turns number (Some steps))
-      → LeadsToText image start.harts recorded.told number steps
+      → LeadsToText image start.harts (recorded.listed).found recorded.told number steps
   -- it leads to an end that is told in the other list, unless somebody goes on there: others beside ranks that are stuck, or
   -- ranks that need buffers
   pub records : (image : ImageParts) (order : List ℕ) (buffered copied : Bool) (states turns more longer number : ℕ)

@@ -5,16 +5,15 @@ use Rattle.std.specs.Str.{bytes_eq}
 use Rattle.rv_image_types.specs.declared.images.ImageParts.{ImageParts}
 use Rattle.cl_order_laws.specs.Closed.{IsEnd, Node}
 use Rattle.cl_moves.specs.Standing.{IsWay, by_order, first_node}
-use Rattle.cl_explore.specs.Covering.{AreNodes}
+use Rattle.cl_explore.specs.Below.{IsVerdictOf}
 use Rattle.cl_explore.specs.Ends.{Findings}
 use Rattle.cl_explore.specs.declared.companies.Company.{Company}
 use Rattle.cl_explore.specs.declared.kept.KeptNode.{KeptNode}
-use Rattle.cl_machine.specs.Cluster.{Cluster}
-use Rattle.cl_machine.specs.declared.steps.Step.{Step}
 use Rattle.cl_replay.specs.States.{ClusterStandsFor}
 use Rattle.cl_replay.specs.declared.states.ClusterState.{ClusterState}
 use Rattle.cl_rests.specs.Needing.{IsNeed}
 use Rattle.rvmc_picture.specs.Below.{company_text}
+use Rattle.rvmc_explore.specs.Beside.{RunOn}
 use Rattle.rvmc_explore.specs.Ends.{IsEndText}
 use Rattle.rvmc_explore.specs.Needs.{need_text}
 use Rattle.rvmc_explore.specs.Searched.{GoesTo, IsSearched}
@@ -41,20 +40,6 @@ pub record IsNeedBody (image : ImageParts) (kept : List KeptNode) (node : ℕ) (
   pub is : IsKeptState kept node state
   pub spelled : body ≡ need_text image state ranks
 
--- a text is told of this cluster: that of an end, of ranks that are stuck there, or of the most that need buffers there
-pub record IsTextAt (image : ImageParts) (order : List ℕ) (cluster : Cluster) (body : List ℕ) : Type 0 where
-  pub state : ClusterState
-  pub stands : ClusterStandsFor image state cluster
-  pub spelled : IsEndText order image state [] body
-      ⊎ (((ranks : List ℕ) × (body ≡ company_text image state ranks))
-      ⊎ ((ranks : List ℕ) × IsNeed ranks cluster × (body ≡ need_text image state ranks)))
-
--- the turns lead to whichever node is kept at this number
-abbrev pub LeadThere : List KeptNode → ℕ → List Step → Type 0
-LeadThere kept at turns =
-    (image : ImageParts) (order : List ℕ) (nodes : List Node) (here : Node) → AreNodes image order kept nodes
-    → slice_get nodes at ≡ Some here → IsWay (by_order order) (first_node image) turns here
-
 -- what is told is that of an end, to which the outcome's turns lead by the order
 pub record IsEndOutcome (order : List ℕ) (image : ImageParts) (outcome : Outcome) : Type 0 where
   pub node : Node
@@ -76,16 +61,36 @@ pub record IsNeedOutcome (order : List ℕ) (image : ImageParts) (outcome : Outc
   pub told : outcome.body.items ≡ need_text image state ranks
   pub of_need : outcome.need ≡ true
 
--- or of a company that is stuck in a node that was found, to which they lead, and whose text no end has
-abbrev pub IsStuckOutcome : ImageParts → Findings → Outcome → Type 0
-IsStuckOutcome image found outcome =
-    (k : ℕ) × (company : Company) × (slice_get found.companies k ≡ Some company)
-    × LeadThere found.kept company.node outcome.way
-    × IsStuckBody image found.kept company outcome.body.items × (outcome.ends ≡ 0) × (outcome.need ≡ false)
+-- or of the most ranks that are stuck together in a node that was found, to which they lead by the order, while others run on:
+-- no move that was made leads on from there to an end that was found. No end has this text
+pub record IsStuckOutcome (order : List ℕ) (image : ImageParts) (found : Findings) (outcome : Outcome) : Type 0 where
+  pub place : ℕ
+  pub company : Company
+  pub noted : slice_get found.companies place ≡ Some company
+  pub told : IsStuckBody image found.kept company outcome.body.items
+  pub node : Node
+  pub led : IsWay (by_order order) (first_node image) outcome.way node
+  pub stands : ClusterStandsFor image told.state node.cluster
+  pub stuck : IsVerdictOf node.cluster (Some company.ranks.items)
+  pub unled : ¬ GoesTo found.leads found.ends company.node
+  pub others : RunOn order company.ranks.items found.left node
+  pub no_ends : outcome.ends ≡ 0
+  pub no_need : outcome.need ≡ false
+
+-- one that was heard of while a search went on: of an end, or of ranks that need buffers
+abbrev pub IsHeard : List ℕ → ImageParts → Outcome → Type 0
+IsHeard order image outcome = IsEndOutcome order image outcome ⊎ IsNeedOutcome order image outcome
 
 abbrev pub IsOutcome : List ℕ → ImageParts → Findings → Outcome → Type 0
 IsOutcome order image found outcome =
-    IsEndOutcome order image outcome ⊎ (IsStuckOutcome image found outcome ⊎ IsNeedOutcome order image outcome)
+    IsEndOutcome order image outcome ⊎ (IsStuckOutcome order image found outcome ⊎ IsNeedOutcome order image outcome)
+
+-- it is one, and this is the node to which its turns lead
+abbrev pub IsOutcomeAt : List ℕ → ImageParts → Findings → Outcome → Node → Type 0
+IsOutcomeAt order image found outcome node =
+    ((end : IsEndOutcome order image outcome) × (end.node ≡ node))
+    ⊎ (((stuck : IsStuckOutcome order image found outcome) × (stuck.node ≡ node))
+    ⊎ ((needs : IsNeedOutcome order image outcome) × (needs.node ≡ node)))
 
 -- ---- all of them
 

@@ -1,5 +1,7 @@
 //! Laws of searches: functions with empty bodies, whose contracts are the laws.
 
+ghost use Rattle.rvmc_explore.specs.BegunLaw.{BegunLaw};
+ghost use Rattle.rvmc_explore.specs.BesideLaw.{BesideLaw};
 ghost use Rattle.rvmc_explore.specs.OneList.{OneListLaw};
 ghost use Rattle.rvmc_explore.specs.SplitLaw.{SplitLaw};
 ghost use Rattle.rvmc_explore.specs.StatusLaw.{StatusLaw};
@@ -22,4 +24,17 @@ pub fn status_law()
 /// tell of ranks that need buffers, or neither does; and the record of a number leads to its text.
 pub fn one_list_law()
     ensures { OneListLaw }
+{}
+
+/// Each outcome that was printed before memory was refused is an end that every search of this image and order lists, if it left
+/// no state, or is of ranks that need buffers. If sends might wait for their receives in such a search, none is of those.
+pub fn begun_law()
+    ensures { BegunLaw }
+{}
+
+/// Where ranks are stuck while others run on, a rank that isn't among them can go on, so it is no end. If no state is left, the
+/// others run on for ever: wherever a run by the order leads from there, the ranks that are stuck are as they were, and somebody
+/// can go on. So the search says that some runs go on for ever.
+pub fn beside_law()
+    ensures { BesideLaw }
 {}

@@ -114,7 +114,11 @@ fn rest_of(
 /// end, else 7 if a hart that takes turns waits at one, some ranks are stuck, or ranks need buffers, else 8 if some runs go on
 /// for ever, else 0. If asked for, lines on `err` say how far the search came.
 ///
-/// Refusals: Clock, Memory. Outcomes that were written before stay. If the writer doesn't take all, the result says so.
+/// Others run on where a rank that isn't stuck can go on, and no end was found from there. If no state is left there is none, and
+/// they run on for ever.
+///
+/// Refusals: Clock, Memory. Outcomes that were written before stay: ends, and ranks that need buffers. If the writer doesn't take
+/// all, the result says so.
 #[tactic(auto, using(crate::proofs::Heard::cut_by, crate::proofs::Heard::whole_by))]
 pub fn put_explored<O: Write, E: Write>(
     alloc: Global,
@@ -127,7 +131,7 @@ pub fn put_explored<O: Write, E: Write>(
     ensures told { IfOk result (λ searched. searched.taken ≡ true → (text : List ℕ)
         × Tells image.now asked.now.order.now asked.now.buffered asked.now.states asked.now.turns text searched.status
         × Appends (O.contents out.old) (O.contents out.new) text) }
-    ensures cut { IfErr result (λ fault. (text : List ℕ) × IsBegun image.now asked.now.order.now text
+    ensures cut { IfErr result (λ fault. (text : List ℕ) × IsBegun image.now asked.now.order.now asked.now.buffered text
         × Appends (O.contents out.old) (O.contents out.new) text) }
     ensures progress { TellsProgress asked.now.progress (E.contents err.old) (E.contents err.new) }
 {

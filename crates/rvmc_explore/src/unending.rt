@@ -36,7 +36,7 @@ fn marked_at(alloc: Global, count: usize, nodes: &[usize]) -> Result<Vec<bool>, 
 }
 
 /// Whether the node of this number is marked.
-fn is_marked(marks: &[bool], node: usize) -> bool
+pub(crate) fn is_marked(marks: &[bool], node: usize) -> bool
     ensures yes { IsTrue result → slice_get marks.now node ≡ Some true }
     ensures no { IsFalse result → slice_get marks.now node ≡ Some true → ⊥ }
 {

@@ -1,9 +1,11 @@
 use Rattle.std.proofs.Common.{arith, subst, sym, ◌∙◌}
 use Rattle.std.proofs.lemmas.Option.{slice_get_read}
 use Rattle.cl_explore.specs.Ends.{findings}
+use Rattle.rvmc_explore.specs.Endless.{AreComplete}
 use Rattle.rvmc_explore.specs.InnerOutcomes.{AreToldBeside}
 use Rattle.rvmc_explore.specs.Searched.{AreSound}
 use Rattle.rvmc_explore.proofs.Listed.{all_told, ends_alone, one_company}
+use Rattle.rvmc_explore.proofs.Unmarked.{AreWhole}
 use Rattle.rvmc_explore.proofs.outcomes.tell.Goals as goal
 
 pub loop-place-init : goal.loop-place-init
@@ -24,8 +26,12 @@ loop-place-preserved c =
     (c.len-place-end.ensures ∙ companies.ok.0) c.loop-place-test.true c.index-company.ensures in
     let sound = subst (λ ends. AreSound found.leads.items ends c.in_ok-marks.marks.items) c.as_slice.ensures.value
     c.in_ok-marks.ensures.sound in
-    one_company c.args.order.now image (findings found) c.args.heard.items c.loop-place.place marks company old new at
+    let complete = subst (λ ends. AreComplete found.leads.items ends c.in_ok-marks.marks.items) c.as_slice.ensures.value
+    c.in_ok-marks.ensures.complete in
+    one_company c.args.order.now image (findings found) c.requires.explored c.parts-parts.ensures.limits c.args.heard.items
+    c.loop-place.place marks company old new at
     (subst (AreSound found.leads.items found.ends.items) (sym c.as_slice-in-loop-place.ensures.value) sound)
+    (subst (AreWhole (findings found)) (sym c.as_slice-in-loop-place.ensures.value) (c.in_ok-marks.ensures.many, complete))
     (subst (λ kept. AreToldBeside image kept marks company old new) c.as_slice-nodes.ensures.value
     c.in_ok-tell_company.ensures) c.loop-place.invariant
 
