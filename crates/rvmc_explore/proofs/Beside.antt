@@ -33,13 +33,13 @@ or_true false = inr (λ is. cc)
 
 or_both : (P Q : Type 0) → Or P → Or Q → Or (P × Q)
 or_both P Q (inl p) (inl q) = inl (p, q)
-or_both P Q (inl p) (inr no) = inr (λ both. no both.1)
-or_both P Q (inr no) q = inr (λ both. no both.0)
+or_both P Q (inl p) (inr isnt) = inr (λ both. isnt both.1)
+or_both P Q (inr isnt) q = inr (λ both. isnt both.0)
 
 or_either : (P Q : Type 0) → Or P → Or Q → Or (P ⊎ Q)
 or_either P Q (inl p) q = inl (inl p)
-or_either P Q (inr no) (inl q) = inl (inr q)
-or_either P Q (inr no) (inr neither) = inr (λ one. elim one [ inl p ↦ no p | inr q ↦ neither q ])
+or_either P Q (inr isnt) (inl q) = inl (inr q)
+or_either P Q (inr isnt) (inr neither) = inr (λ one. elim one [ inl p ↦ isnt p | inr q ↦ neither q ])
 
 or_stopped : (m : Mode) → Or (IsStopped m)
 or_stopped Running = inr (λ is. is)
@@ -60,7 +60,7 @@ or_patient rank hart = of (or_waiting (mode_of rank hart)) (or_true (waits_on (d
         → Or (IsPatient rank hart)
     of (inl waits) (inl on) = inl (record { waits = waits; on = on })
     of (inl waits) (inr off) = inr (λ p. off p.on)
-    of (inr no) on = inr (λ p. no p.waits)
+    of (inr isnt) on = inr (λ p. isnt p.waits)
 
 or_not_yet : (a : Reply) → Or (a ≡ reply.NotYet)
 or_not_yet (reply.Code code) = inr (λ is. cc)
@@ -79,7 +79,7 @@ or_if_there : {A : Type 0} (P : A → Type 0) (o : Option A) → ((a : A) → Or
 or_if_there P None each = inl (λ a is. absurd (cc))
 or_if_there P (Some x) each = elim (each x) [
   | inl holds ↦ inl (λ a is. subst P (same_Some x a is) holds)
-  | inr no ↦ inr (λ all. no (all x refl))
+  | inr isnt ↦ inr (λ all. isnt (all x refl))
 ]
 
 or_empty : (box : Box) → Or (IsEmpty box)
@@ -115,7 +115,7 @@ all_or_one P each (suc k) = of (all_or_one P each k) (each k)
   where
     of : ((n : ℕ) → n < k → P n) ⊎ ((n : ℕ) × ¬ P n) → Or (P k) → ((n : ℕ) → n < suc k → P n) ⊎ ((n : ℕ) × ¬ P n)
     of (inr one) here = inr one
-    of (inl all) (inr no) = inr (k, no)
+    of (inl all) (inr isnt) = inr (k, isnt)
     of (inl all) (inl here) = inl (λ n low. elim (cases_eq k n) [
       | inl same ↦ subst P same here
       | inr other ↦ all n (omega (arith, low, other))
