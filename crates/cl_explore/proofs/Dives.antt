@@ -161,6 +161,7 @@ module _ (image : ImageParts) (order : List ℕ) (start : Node) (kept more : Lis
         told = λ i node visited ended.
             let k = e.told i node (was i node visited) ended in (k.0, stays_at ends number k.0 i k.1);
         stuck = λ right k company at. (let v = e.stuck right k company at in (v.0, grows company.node v.0 v.1, v.2));
+        visited = λ k company at. (let low = e.visited k company at in let m = many in omega (arith, low, m));
         judged = λ right i node visited. e.judged right i node (was i node visited);
         all = λ none. absurd (omega (arith, none));
         waits = e.waits;

@@ -88,6 +88,7 @@ pub record SoFar (how : How) (image : ImageParts) (order : List ℕ) (start : No
       → (k : ℕ) × (slice_get ends k ≡ Some i)
   pub stuck : IsImage image → (k : ℕ) (company : Company) → slice_get companies k ≡ Some company
       → IsCompanyAt nodes company
+  pub visited : (k : ℕ) (company : Company) → slice_get companies k ≡ Some company → company.node < done
   pub judged : IsImage image → (i : ℕ) (node : Node) → i < done → slice_get nodes i ≡ Some node
       → IsJudged companies i node.cluster
   pub unneeded : IsImage image → waits_in how ≡ true → (i : ℕ) (node : Node) → i < done → slice_get nodes i ≡ Some node
@@ -114,6 +115,8 @@ none_so_far how image order start search ends companies resting begun none nobod
       let no : slice_get [] k ≡ Some i = subst (λ xs. slice_get xs k ≡ Some i) none at in absurd (cc);
   all = λ i node low at end. absurd (omega (arith, low));
   stuck = λ right k company at.
+      let no : slice_get [] k ≡ Some company = subst (λ xs. slice_get xs k ≡ Some company) nobody at in absurd (cc);
+  visited = λ k company at.
       let no : slice_get [] k ≡ Some company = subst (λ xs. slice_get xs k ≡ Some company) nobody at in absurd (cc);
   judged = λ right i node low at. absurd (omega (arith, low));
   unneeded = λ right waits i node low at one. absurd (omega (arith, low));
@@ -278,6 +281,11 @@ module _ (how : How) (image : ImageParts) (order : List ℕ) (start : Node) (old
                 subst (IsVerdictOf (node.0).cluster) last.1 ((far.holds).stuck right),
               )
             ];
+        visited = λ k company at.
+            elim (noted_before companies after (option_map (λ ranks. ranks.items) visit.stuck) done stuck k company at) [
+              | inl before ↦ let low = explored.visited k company before in omega (arith, low)
+              | inr last ↦ let here = last.0 in omega (arith, here)
+            ];
         judged = λ right.
             each (λ j y. IsJudged after j y.cluster)
             (noted_now companies after (option_map (λ ranks. ranks.items) visit.stuck) done (node.0).cluster stuck
@@ -413,6 +421,8 @@ module _ (how : How) (image : ImageParts) (order : List ℕ) (start : Node) (sea
       sound = explored.told;
       told = λ i node visited ended. explored.all i node (low i visited.0) visited.1 ended;
       stuck = explored.stuck;
+      visited = λ k company at.
+          let low = explored.visited k company at in omega (arith, low, many, ((explored.found).are).many);
       judged = λ right i node visited. explored.judged right i node (low i visited.0) visited.1;
       all = λ is. all_ends (omega (arith, is, many));
       waits = λ is. may_wait_in how (sym may_wait ∙ is);

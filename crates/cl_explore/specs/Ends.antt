@@ -75,9 +75,9 @@ AreRestingAt resting i cluster = (set : ℕ) × (slice_get resting i ≡ Some se
 
 -- what is kept are nodes to each of which its turns led, they reach the start, those whose moves were made are closed over
 -- them, with few posts where calls for what is there are made at once, and moves led between them; the ends are ends, and
--- each of those that is one is told; the companies are the most ranks that are stuck together in a node, and each is told
--- of those; and where no node is left the ends are all. Where standard sends might wait for their receives, no ranks need
--- buffers in a node whose moves were made, and it is noted which ranks rest there
+-- each of those that is one is told; the companies are the most ranks that are stuck together in a node whose moves were
+-- made, and each is told of those; and where no node is left the ends are all. Where standard sends might wait for their
+-- receives, no ranks need buffers in a node whose moves were made, and it is noted which ranks rest there
 pub record ExploredFrom (image : ImageParts) (order : List ℕ) (start : Node) (found : Findings) : Type 0 where
   pub nodes : List Node
   pub are : AreNodes image order found.kept nodes
@@ -96,6 +96,8 @@ pub record ExploredFrom (image : ImageParts) (order : List ℕ) (start : Node) (
       → (k : ℕ) × (slice_get found.ends k ≡ Some i)
   pub stuck : IsImage image → (k : ℕ) (company : Company) → slice_get found.companies k ≡ Some company
       → IsCompanyAt nodes company
+  pub visited : (k : ℕ) (company : Company) → slice_get found.companies k ≡ Some company
+      → company.node + found.left < length nodes
   pub judged : IsImage image → (i : ℕ) (node : Node) → IsVisitedNode nodes found.left i node
       → IsJudged found.companies i node.cluster
   pub all : found.left ≡ 0 → AreAllEnds order start nodes found.ends

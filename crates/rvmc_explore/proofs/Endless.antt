@@ -338,6 +338,14 @@ module _ (image : ImageParts) (order : List ℕ) (start : Node) (found : Finding
           not_inside i (complete.at k.0 i k.1 (is_node i node at)) is;
     }
 
+    -- from a node that isn't marked none leads there
+    pub never_ends : (i : ℕ) (node : Node) → slice_get nodes i ≡ Some node → (slice_get marks i ≡ Some true → ⊥)
+        → NeverEnds (by_order order) node
+    never_ends i node at unset = elim (within_or_marked i (is_node i node at) (marked marks i) refl) [
+      | inl is ↦ never_by image order start nodes found.leads explored.how whole inside trap i node is at
+      | inr set ↦ absurd (unset set)
+    ]
+
     pub some_never_ends : (i : ℕ) → slice_get marks i ≡ Some false → SomeNeverEnds image order
     some_never_ends i at =
         let low = slice_get_within marks i false at in

@@ -11,13 +11,12 @@ use Rattle.cl_explore.specs.Listening.{IsEndNode, IsNeedNode}
 use Rattle.cl_explore.specs.declared.kept.KeptNode.{KeptNode}
 use Rattle.cl_replay.specs.States.{ClusterStandsFor}
 use Rattle.rvmc_report.specs.Report.{newline}
-use Rattle.rvmc_explore.specs.InnerOutcomes.{AreHeard, BeginsWith, IsHeard, IsNew, IsOutcomeOf, bodies_told}
-use Rattle.rvmc_explore.specs.Outcomes.{HasBody, IsEndBody, IsNeedBody, IsNeedOutcome, any_need}
+use Rattle.rvmc_explore.specs.InnerOutcomes.{AreHeard, BeginsWith, IsNew, IsOutcomeOf, bodies_told}
+use Rattle.rvmc_explore.specs.Outcomes.{HasBody, IsEndBody, IsHeard, IsNeedBody, IsNeedOutcome, any_need}
 use Rattle.rvmc_explore.specs.Telling.{AddsOutcome, AddsOutcomes, IsBegun, Tells, outcome_number}
 use Rattle.rvmc_explore.specs.InnerTelling.{WereTold}
 use Rattle.rvmc_explore.specs.declared.outcomes.Outcome.{Outcome}
 use Rattle.rvmc_explore.proofs.Listed.{added_apart, end_outcome, needs_added, was_or_added}
-use Rattle.rvmc_explore.proofs.ToEnds.{heard_way}
 
 -- ---- an end that was heard of
 
@@ -215,11 +214,13 @@ one_told_more told new outcome was taken before mid now piece is one puts (text,
       λ all. let v = puts all in Appends-trans before mid now text piece (held v.0) v.1,
     )
 
-pub begun_by : (order : List ℕ) (image : ImageParts) (told : List Outcome) (text : List ℕ) → AreHeard order image told
-    → AddsOutcomes 1 told [] text → IsBegun image order text
-begun_by order image told text heard lines = record {
+pub begun_by : (order : List ℕ) (image : ImageParts) (buffered : Bool) (told : List Outcome) (text : List ℕ)
+    → AreHeard order image told → (buffered ≡ true → any_need told ≡ false) → AddsOutcomes 1 told [] text
+    → IsBegun image order buffered text
+begun_by order image buffered told text heard no_need lines = record {
   told = told;
-  each = λ k outcome at. heard_way image order outcome (heard.each k outcome at);
+  each = heard.each;
+  no_need = no_need;
   apart = heard.apart;
   lines = lines;
 }
@@ -230,11 +231,12 @@ whatever_err (Ok value) P is = tt
 whatever_err (Err fault) P is = is
 
 -- where memory was refused, what was told is what was found so far
-pub cut_by : (order : List ℕ) (image : ImageParts) (told : List Outcome) (taken : Bool) (before now : Option (List ℕ))
-    → AreHeard order image told → WereTold told taken before now → taken ≡ true
-    → (text : List ℕ) × IsBegun image order text × Appends before now text
-cut_by order image told taken before now heard (text, lines, held) all =
-    (text, begun_by order image told text heard lines, held all)
+pub cut_by : (order : List ℕ) (image : ImageParts) (buffered : Bool) (told : List Outcome) (taken : Bool)
+    (before now : Option (List ℕ)) → AreHeard order image told → (buffered ≡ true → any_need told ≡ false)
+    → WereTold told taken before now → taken ≡ true
+    → (text : List ℕ) × IsBegun image order buffered text × Appends before now text
+cut_by order image buffered told taken before now heard no_need (text, lines, held) all =
+    (text, begun_by order image buffered told text heard no_need lines, held all)
 
 -- and with the rest behind it all is told
 pub whole_by : (order : List ℕ) (image : ImageParts) (buffered : Bool) (states turns status : ℕ) (told : List Outcome)

@@ -4,19 +4,20 @@ use Rattle.std.proofs.lemmas.Option.{same_Some, slice_get_within}
 use Rattle.rv_image_types.specs.Image.{IsImage}
 use Rattle.rv_image_types.specs.declared.images.ImageParts.{ImageParts}
 use Rattle.cl_order_laws.specs.Closed.{Node}
+use Rattle.cl_patient_laws.specs.Patient.{HangsIfSendsWait}
 use Rattle.cl_replay.specs.States.{ClusterStandsFor}
 use Rattle.cl_rests.specs.Sets.{AreResting}
-use Rattle.cl_moves.specs.Standing.{first_node}
+use Rattle.cl_moves.specs.Standing.{by_order, first_node}
 use Rattle.cl_explore.specs.Ends.{ExploredFrom, Findings}
 use Rattle.cl_explore.specs.Needing.{SaysNeeds}
 use Rattle.cl_explore.specs.declared.needs.Needs.{Needs}
 use Rattle.cl_explore.specs.declared.needs.Needs.TheVariants as needs
 use Rattle.cl_explore.proofs.Keeping.{node_found}
-use Rattle.rvmc_explore.specs.HangTexts.{IsHangBody, hang_text}
+use Rattle.rvmc_explore.specs.HangTexts.{hang_text}
 use Rattle.rvmc_explore.specs.Hanging.{EachGoes, TellsHang, TellsHangAt}
 use Rattle.rvmc_explore.specs.Hangs.{ListsHang, SaysHanging}
-use Rattle.rvmc_explore.specs.InnerOutcomes.{BeginsWith}
-use Rattle.rvmc_explore.specs.Outcomes.{AreTold, HasBody, any_need}
+use Rattle.rvmc_explore.specs.InnerOutcomes.{BeginsWith, IsOutcomeOf}
+use Rattle.rvmc_explore.specs.Outcomes.{AreTold, HasBody, IsHangOutcome, any_need}
 use Rattle.rvmc_explore.specs.declared.outcomes.Outcome.{Outcome}
 use Rattle.rvmc_explore.proofs.EndTexts.{stands_kept}
 use Rattle.rvmc_explore.proofs.Hanging.{never_hangs, some_hangs}
@@ -32,28 +33,57 @@ whole_by buffered image found told needs.Unknown says is = absurd (cc)
 
 module _ (order : List ℕ) (image : ImageParts) (found : Findings) (known : Needs) (unending : Bool)
     (whole : known ≡ needs.Nobody → (found.left ≡ 0) × (found.may_wait ≡ true)) where
-  -- what was told is told still, and so is what hangs
-  hung_at : (old new : List Outcome) → AreTold order image found old → TellsHangAt image found old new known unending
-      → AreTold order image found new
-  hung_at old new are at =
-      let grows = by_stuck found.kept old new at.node at.body at.adds in
+  -- the node at which it hangs
+  hung_node : (old new : List Outcome) → IsImage image → (explored : ExploredFrom image order (first_node image) found)
+      → (at : TellsHangAt image found old new known unending)
+      → (node : Node) × (slice_get explored.nodes at.node ≡ Some node) × HangsIfSendsWait (by_order order) node
+      × AreResting at.set node.cluster × ClusterStandsFor image (at.spelled).state node.cluster
+  hung_node old new limits explored at =
       let all = whole at.nobody in
+      let some = some_hangs image order (first_node image) found limits explored all.0 all.1 at.node at.inside at.hangs in
+      let kept = (at.spelled).is in
+      let inside = slice_get_within explored.nodes at.node some.0 some.1 in
+      let noted = explored.rested limits all.1 at.node some.0 (omega (arith, inside, all.0), some.1) in (
+        some.0,
+        some.1,
+        some.2,
+        subst (λ set. AreResting set (some.0).cluster) (sym (at.noted noted.0 noted.1)) noted.2,
+        stands_kept image order (first_node image) found explored at.node kept.what some.0 (at.spelled).state kept.there some.1
+            kept.same,
+      )
+
+  -- an outcome of it
+  hang_outcome : (old new : List Outcome) (outcome : Outcome) → IsImage image
+      → ExploredFrom image order (first_node image) found → (at : TellsHangAt image found old new known unending)
+      → IsOutcomeOf found.kept at.node at.body 0 false outcome → IsHangOutcome order image found outcome
+  hang_outcome old new outcome limits explored at one =
+      let all = whole at.nobody in
+      let there = hung_node old new limits explored at in
+      record {
+        all = all.0;
+        waiting = all.1;
+        node = there.0;
+        led = one.leads image order explored.nodes there.0 explored.are there.1;
+        hangs = there.2;
+        set = at.set;
+        resting = there.3;
+        state = (at.spelled).state;
+        stands = there.4;
+        told = one.body_is ∙ (at.spelled).spelled;
+        no_ends = one.ends_are;
+        no_need = one.need_is;
+      }
+
+  -- what was told is told still, and so is what hangs
+  hung_at : (old new : List Outcome) → IsImage image → ExploredFrom image order (first_node image) found
+      → AreTold order image found old → TellsHangAt image found old new known unending
+      → AreTold order image found new
+  hung_at old new limits explored are at =
+      let grows = by_stuck found.kept old new at.node at.body at.adds in
       record {
         each = λ k outcome there. elim (was_stuck found.kept old new at.node at.body at.adds k outcome there) [
           | inl was ↦ are.each k outcome was
-          | inr one ↦ inr (inr (inr (record {
-            node = at.node;
-            all = all.0;
-            waiting = all.1;
-            inside = at.inside;
-            hangs = at.hangs;
-            leads = one.leads;
-            set = at.set;
-            noted = at.noted;
-            told = subst (IsHangBody image found.kept at.node at.set) (sym one.body_is) at.spelled;
-            uncounted = one.ends_are;
-            no_need = one.need_is;
-          })))
+          | inr one ↦ inr (inr (inr (hang_outcome old new outcome limits explored at one)))
         ];
         apart = grows.still_apart are.apart;
         counted = still_counted order image found old new at.node at.body at.adds are.counted;
@@ -63,10 +93,10 @@ module _ (order : List ℕ) (image : ImageParts) (found : Findings) (known : Nee
         ];
       }
 
-  pub hung : (old new : List Outcome) (hangs : Bool) → AreTold order image found old
-      → TellsHang image found old new known unending hangs → AreTold order image found new
-  hung old new false are tells = subst (AreTold order image found) (sym tells.0) are
-  hung old new true are tells = hung_at old new are tells
+  pub hung : (old new : List Outcome) (hangs : Bool) → IsImage image → ExploredFrom image order (first_node image) found
+      → AreTold order image found old → TellsHang image found old new known unending hangs → AreTold order image found new
+  hung old new false limits explored are tells = subst (AreTold order image found) (sym tells.0) are
+  hung old new true limits explored are tells = hung_at old new limits explored are tells
 
   pub hung_begins : (heard old new : List Outcome) (hangs : Bool) → BeginsWith heard old
       → TellsHang image found old new known unending hangs → BeginsWith heard new
@@ -91,24 +121,19 @@ module _ (order : List ℕ) (image : ImageParts) (found : Findings) (known : Nee
         | inr none ↦ absurd (none (each ends all.0 i low))
       ])
   says_hanging old new true limits explored each at =
-      let all = whole at.nobody in
-      let some = some_hangs image order (first_node image) found limits explored all.0 all.1 at.node at.inside at.hangs in
-      let way = node_found image order found.kept explored.nodes explored.are at.node some.0 some.1 in
-      let kept = (at.spelled).is in
-      let inside = slice_get_within explored.nodes at.node some.0 some.1 in
-      let noted = explored.rested limits all.1 at.node some.0 (omega (arith, inside, all.0), some.1) in (
+      let there = hung_node old new limits explored at in
+      let way = node_found image order found.kept explored.nodes explored.are at.node there.0 there.1 in (
         at.nobody,
         at.ends,
         record {
           steps = way.0;
-          node = some.0;
+          node = there.0;
           way = way.1;
-          hangs = some.2;
+          hangs = there.2;
           set = at.set;
-          resting = subst (λ set. AreResting set (some.0).cluster) (sym (at.noted noted.0 noted.1)) noted.2;
+          resting = there.3;
           state = (at.spelled).state;
-          stands = stands_kept image order (first_node image) found explored at.node kept.what some.0 (at.spelled).state
-              kept.there some.1 kept.same;
+          stands = there.4;
           listed = subst (HasBody new) (at.spelled).spelled (by_stuck found.kept old new at.node at.body at.adds).here;
         },
       )

@@ -1,3 +1,5 @@
+pub mod Beside
+pub mod Unmarked
 pub mod Listed
 pub mod Marked
 pub mod Endless
@@ -14,3 +16,4 @@ pub mod Needed
 pub mod Statuses
 pub mod Hanging
 pub mod Hung
+pub mod Forever

@@ -23,12 +23,14 @@ use Rattle.cl_explore.specs.declared.kept.KeptNode.{KeptNode}
 use Rattle.cl_replay.specs.States.{ClusterStandsFor}
 use Rattle.rvmc_starts.specs.declared.parts.EndText.{EndText}
 use Rattle.rvmc_explore.specs.Ends.{IsEndText}
-use Rattle.rvmc_explore.specs.InnerOutcomes.{AddsEnd, AddsOne, AddsStuck, AreHeard, AreToldBeside, AreToldEnds, BeginsWith, HaveRoom, IsHeard, IsOutcomeOf, bodies_told, one_end_more}
-use Rattle.rvmc_explore.specs.Outcomes.{AreApart, AreCounted, AreTold, HasBody, IsEndBody, IsEndOutcome, IsNeedOutcome, IsOutcome, IsStuckBody, LeadThere, TellsStuck, any_need, ends_with}
+use Rattle.rvmc_explore.specs.InnerOutcomes.{AddsEnd, AddsOne, AddsStuck, AreHeard, AreToldBeside, AreToldEnds, BeginsWith, HaveRoom, IsOutcomeOf, LeadThere, bodies_told, one_end_more}
+use Rattle.rvmc_explore.specs.Outcomes.{AreApart, AreCounted, AreTold, HasBody, IsEndBody, IsEndOutcome, IsHeard, IsNeedOutcome, IsOutcome, IsStuckBody, IsStuckOutcome, TellsStuck, any_need, ends_with}
 use Rattle.rvmc_explore.specs.Searched.{AreSound, GoesTo, IsExplored, IsWithin}
 use Rattle.rvmc_explore.specs.Starting.{AreEndsTold, IsEndTold}
 use Rattle.rvmc_explore.specs.Telling.{AddsOutcome, AddsOutcomes}
 use Rattle.rvmc_explore.specs.declared.outcomes.Outcome.{Outcome}
+use Rattle.rvmc_explore.proofs.EndTexts.{stands_kept}
+use Rattle.rvmc_explore.proofs.Unmarked.{AreWhole, others_run_on, unled}
 
 -- ---- what was found is among the nodes
 
@@ -496,7 +498,7 @@ pub record StuckSoFar (order : List ℕ) (image : ImageParts) (found : Findings)
   pub begins : BeginsWith heard told
   pub needs : any_need told ≡ any_need heard
 
-as_outcome : (order : List ℕ) (image : ImageParts) (found : Findings) (outcome : Outcome) → IsHeard order image outcome
+pub as_outcome : (order : List ℕ) (image : ImageParts) (found : Findings) (outcome : Outcome) → IsHeard order image outcome
     → IsOutcome order image found outcome
 as_outcome order image found outcome (inl end) = inl end
 as_outcome order image found outcome (inr need) = inr (inr (inl need))
@@ -524,11 +526,37 @@ still_counted order image found old new node body adds are = record {
   each = counted_stuck found.kept are.bodies old new node body are.there adds are.each;
 }
 
-pub one_company : (order : List ℕ) (image : ImageParts) (found : Findings) (heard : List Outcome) (count : ℕ)
-    (marks : List Bool) (company : Company) (old new : List Outcome) → slice_get found.companies count ≡ Some company
-    → AreSound found.leads found.ends marks → AreToldBeside image found.kept marks company old new
+-- what is told of ranks that are stuck in a node that isn't marked
+stuck_outcome : (order : List ℕ) (image : ImageParts) (found : Findings) → IsExplored image order found → IsImage image
+    → (marks : List Bool) → AreWhole found marks → (count : ℕ) (company : Company) (body : List ℕ) (outcome : Outcome)
+    → slice_get found.companies count ≡ Some company → (slice_get marks company.node ≡ Some true → ⊥)
+    → IsStuckBody image found.kept company body → IsOutcomeOf found.kept company.node body 0 false outcome
+    → IsStuckOutcome order image found outcome
+stuck_outcome order image found (start, explored) right marks (many, complete) count company body outcome at unset is of =
+    let told = subst (IsStuckBody image found.kept company) (sym of.body_is) is in
+    let it = told.is in
+    let one = explored.stuck right count company at in
+    record {
+      place = count;
+      company = company;
+      noted = at;
+      told = told;
+      node = one.0;
+      led = of.leads image order explored.nodes one.0 explored.are one.1;
+      stands = stands_kept image order start found explored company.node it.what one.0 told.state it.there one.1 it.same;
+      stuck = one.2;
+      unled = unled image order start found explored marks many complete company.node unset;
+      others = others_run_on image order start found explored marks many complete right count company at one.0 one.1 unset;
+      no_ends = of.ends_are;
+      no_need = of.need_is;
+    }
+
+pub one_company : (order : List ℕ) (image : ImageParts) (found : Findings) → IsExplored image order found → IsImage image
+    → (heard : List Outcome) (count : ℕ) (marks : List Bool) (company : Company) (old new : List Outcome)
+    → slice_get found.companies count ≡ Some company → AreSound found.leads found.ends marks → AreWhole found marks
+    → AreToldBeside image found.kept marks company old new
     → StuckSoFar order image found heard count old → StuckSoFar order image found heard (count + 1) new
-one_company order image found heard count marks company old new at sound (inl marked) so_far =
+one_company order image found explored right heard count marks company old new at sound whole (inl marked) so_far =
     subst (λ os. StuckSoFar order image found heard (count + 1) os) (sym marked.1) (record {
       each = so_far.each;
       apart = so_far.apart;
@@ -543,23 +571,16 @@ one_company order image found heard count marks company old new at sound (inl ma
       begins = so_far.begins;
       needs = so_far.needs;
     })
-one_company order image found heard count marks company old new at sound (inr more) so_far =
-    let body = more.0 in
-    let is = more.1 in
-    let adds = more.2 in
+one_company order image found explored right heard count marks company old new at sound whole (inr more) so_far =
+    let body = more.1 in
+    let is = more.2 in
+    let adds = more.3 in
     let grows = by_stuck found.kept old new company.node body adds in
     record {
       each = λ k outcome there. elim (was_stuck found.kept old new company.node body adds k outcome there) [
         | inl was ↦ so_far.each k outcome was
-        | inr one ↦ inr (inl (
-          count,
-          company,
-          at,
-          one.leads,
-          subst (IsStuckBody image found.kept company) (sym one.body_is) is,
-          one.ends_are,
-          one.need_is,
-        ))
+        | inr one ↦
+            inr (inl (stuck_outcome order image found explored right marks whole count company body outcome at more.0 is one))
       ];
       apart = grows.still_apart so_far.apart;
       counted = still_counted order image found old new company.node body adds so_far.counted;

@@ -79,10 +79,10 @@ module _ (image : ImageParts) (order : List ℕ) (buffered : Bool) (states turns
 -- ---- ranks that need buffers
 
 -- where runs never come to any, no outcome of any search is of such ranks
-unneeded : (image : ImageParts) (order : List ℕ) (found : Findings) (outcome : Outcome)
+pub unneeded : (image : ImageParts) (order : List ℕ) (found : Findings) (outcome : Outcome)
     → NeverNeeds image order (first_node image) → IsOutcome order image found outcome → outcome.need ≡ true → ⊥
 unneeded image order found outcome never (inl end) is = let no : true ≡ false = sym is ∙ end.no_need in absurd (cc)
-unneeded image order found outcome never (inr (inl stuck)) is = let no : true ≡ false = sym is ∙ stuck.6 in absurd (cc)
+unneeded image order found outcome never (inr (inl stuck)) is = let no : true ≡ false = sym is ∙ stuck.no_need in absurd (cc)
 unneeded image order found outcome never (inr (inr (inr hang))) is = let no : true ≡ false = sym is ∙ hang.no_need in absurd (cc)
 unneeded image order found outcome never (inr (inr (inl needs))) is =
     let there = (needs.node).cluster in
@@ -107,7 +107,7 @@ any_some {A = A} p (x ∷ xs) is = of (λ any. any_some p xs any) (p x) refl is
     of rest true here any = (0, x, refl, here)
     of rest false here any = let v = rest any in (suc v.0, v.1, v.2, v.3)
 
-some_any : {A : Type 0} (p : A → Bool) (xs : List A) (k : ℕ) (x : A) → slice_get xs k ≡ Some x → p x ≡ true
+pub some_any : {A : Type 0} (p : A → Bool) (xs : List A) (k : ℕ) (x : A) → slice_get xs k ≡ Some x → p x ≡ true
     → list_any p xs ≡ true
 some_any p xs k x at is =
     list_any_at p xs k x (slice_get_within xs k x at) (ap p (get_or_from_slice_get xs k x x at) ∙ is)
@@ -250,25 +250,17 @@ hanging_same image order told other known its unending endless b c one two needs
     bools b c (hanging_there image order told other known its unending endless b c one two needs ends)
     (hanging_there image order other told its known endless unending c b two one (sym needs) (sym ends))
 
-leads_there : (image : ImageParts) (order : List ℕ) (steps : List Step) (o : Option Outcome)
-    → Leads image order o (Some steps) → (outcome : Outcome) × (o ≡ Some outcome) × LeadsTo image order outcome steps
-leads_there image order steps None leads = absurd leads
-leads_there image order steps (Some outcome) leads = (outcome, refl, leads)
+leads_there : (image : ImageParts) (order : List ℕ) (left : ℕ) (steps : List Step) (o : Option Outcome)
+    → Leads image order left o (Some steps) → (outcome : Outcome) × (o ≡ Some outcome) × LeadsTo image order left outcome steps
+leads_there image order left steps None leads = absurd leads
+leads_there image order left steps (Some outcome) leads = (outcome, refl, leads)
 
-leads_to_text : (image : ImageParts) (order : List ℕ) (told : List Outcome) (number : ℕ) (steps : List Step)
-    → Leads image order (numbered told number) (Some steps) → LeadsToText image order told number steps
-leads_to_text image order told number steps leads =
-    let led = leads_there image order steps (numbered told number) leads in
+leads_to_text : (image : ImageParts) (order : List ℕ) (left : ℕ) (told : List Outcome) (number : ℕ) (steps : List Step)
+    → Leads image order left (numbered told number) (Some steps) → LeadsToText image order left told number steps
+leads_to_text image order left told number steps leads =
+    let led = leads_there image order left steps (numbered told number) leads in
     let at = numbered_at told number led.0 led.1 in
-    record {
-      end = (led.2.node).cluster;
-      run = led.2.run;
-      outcome = led.0;
-      place = at.0;
-      numbered_from_1 = at.1;
-      there = at.2;
-      told_at = led.2.told_at;
-    }
+    record { outcome = led.0; place = at.0; numbered_from_1 = at.1; there = at.2; leads = led.2 }
 
 -- no list tells of ranks that need buffers where runs never come to any
 none_needed : (image : ImageParts) (order : List ℕ) (copied : Bool) (more longer : ℕ) (other : List Outcome)
@@ -284,8 +276,7 @@ none_needed image order copied more longer other listed never = of (any_need oth
 pub one_list_law : OneListLaw
 one_list_law = record {
   each = λ image order buffered states turns told listed k outcome at.
-      told_way image order (first_node image) listed.found (listed.searched).explored outcome
-      ((listed.are).each k outcome at);
+      told_way image order listed.found outcome ((listed.are).each k outcome at);
   every = λ image order buffered states turns told listed whole steps end run follow is.
       tells_end image order buffered states turns told listed whole steps end run follow is;
   ends = λ image order buffered copied states turns more longer told other one listed whole k i node at there.
@@ -296,15 +287,16 @@ one_list_law = record {
       tells_end image order copied more longer other listed whole way.0 node.cluster (way.1).run (way.1).follow
       (subst (λ (n : Node). IsEnd (by_order order) n.cluster) same end.2);
   record_leads = λ image order buffered states turns number steps recorded.
-      leads_to_text image order recorded.told number steps recorded.leads;
+      leads_to_text image order ((recorded.listed).found).left recorded.told number steps recorded.leads;
   record_leads_from = λ image start states turns number steps recorded.
-      leads_to_text image start.harts recorded.told number steps recorded.leads;
+      leads_to_text image start.harts ((recorded.listed).found).left recorded.told number steps recorded.leads;
   records = λ image order buffered copied states turns more longer number steps other recorded listed whole.
-      let led = leads_there image order steps (numbered recorded.told number) recorded.leads in
+      let left = ((recorded.listed).found).left in
+      let led = leads_there image order left steps (numbered recorded.told number) recorded.leads in
       let way = led.2.way in (
         (led.2.node).cluster,
         led.2.run,
-        λ is. tells_end image order copied more longer other listed whole led.2.turns (led.2.node).cluster way.run way.follow is,
+        λ is. tells_end image order copied more longer other listed whole led.0.way (led.2.node).cluster way.run way.follow is,
       );
   none_need = λ image order buffered copied states turns more longer text status other one whole waiting listed.
       none_needed image order copied more longer other listed (one.none_need whole waiting);

@@ -1,15 +1,15 @@
 -- Outcomes on the way: those that were heard of while a search went on, and lists to which more are added.
 use Rattle.std.specs.Prelude.{ℕ, ◌+◌, ◌^◌, ◌<◌, ◌≡◌, ◌⊎◌, List, [], ◌∷◌, ◌++◌, Bool, false, true, map, slice_get, slice_set, Option, None, Some}
 use Rattle.rv_image_types.specs.declared.images.ImageParts.{ImageParts}
+use Rattle.cl_explore.specs.Covering.{AreNodes}
 use Rattle.cl_explore.specs.Ends.{Findings}
 use Rattle.cl_explore.specs.declared.companies.Company.{Company}
 use Rattle.cl_explore.specs.declared.kept.KeptNode.{KeptNode}
-use Rattle.rvmc_explore.specs.Outcomes.{AreApart, AreCounted, HasBody, IsEndOutcome, IsNeedOutcome, IsStuckBody, LeadThere, ListsNeed}
+use Rattle.cl_machine.specs.declared.steps.Step.{Step}
+use Rattle.cl_moves.specs.Standing.{IsWay, by_order, first_node}
+use Rattle.cl_order_laws.specs.Closed.{Node}
+use Rattle.rvmc_explore.specs.Outcomes.{AreApart, AreCounted, HasBody, IsHeard, IsNeedOutcome, IsStuckBody, ListsNeed}
 use Rattle.rvmc_explore.specs.declared.outcomes.Outcome.{Outcome}
-
--- one of an end, or of ranks that need buffers
-abbrev pub IsHeard : List ℕ → ImageParts → Outcome → Type 0
-IsHeard order image outcome = IsEndOutcome order image outcome ⊎ IsNeedOutcome order image outcome
 
 -- outcomes that were heard of, however far a search came: each is such a one, its ends aren't counted yet, and no two have the
 -- same text
@@ -40,6 +40,12 @@ BeginsWith first told = (more : List (List ℕ)) × (bodies_told told ≡ bodies
 -- the text of the outcome at this place
 abbrev pub IsBodyAt : List Outcome → List ℕ → ℕ → Type 0
 IsBodyAt told body place = (outcome : Outcome) × (slice_get told place ≡ Some outcome) × (outcome.body.items ≡ body)
+
+-- the turns lead to whichever node is kept at this number
+abbrev pub LeadThere : List KeptNode → ℕ → List Step → Type 0
+LeadThere kept at turns =
+    (image : ImageParts) (order : List ℕ) (nodes : List Node) (here : Node) → AreNodes image order kept nodes
+    → slice_get nodes at ≡ Some here → IsWay (by_order order) (first_node image) turns here
 
 -- the outcome at the node of this number, with this text, which so many ends have, and whether it is of ranks that need
 -- buffers
@@ -87,4 +93,5 @@ pub record AreToldEnds (order : List ℕ) (image : ImageParts) (found : Findings
 abbrev pub AreToldBeside : ImageParts → List KeptNode → List Bool → Company → List Outcome → List Outcome → Type 0
 AreToldBeside image kept marks company old new =
     ((slice_get marks company.node ≡ Some true) × (new ≡ old))
-    ⊎ ((body : List ℕ) × IsStuckBody image kept company body × AddsStuck kept old company.node body new)
+    ⊎ ((slice_get marks company.node ≡ Some true → ⊥)
+    × ((body : List ℕ) × IsStuckBody image kept company body × AddsStuck kept old company.node body new))

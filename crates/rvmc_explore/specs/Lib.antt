@@ -5,6 +5,7 @@ pub mod Marks
 pub mod Endless
 pub mod Patient
 pub mod WorkedPatient
+pub mod Beside
 pub mod Outcomes
 pub mod HangTexts
 pub mod InnerOutcomes
@@ -18,6 +19,7 @@ pub mod StatusLaw
 pub mod OneList
 pub mod Starting
 pub mod SplitLaw
+pub mod BesideLaw
 pub mod Below
 pub mod Hanging
 pub mod Hangs

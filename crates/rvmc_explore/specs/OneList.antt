@@ -12,7 +12,7 @@ use Rattle.cl_moves.specs.Standing.{IsWay, by_order, first_node}
 use Rattle.cl_explore.specs.Ends.{AreAlikeEnds}
 use Rattle.rvmc_explore.specs.Ends.{end_rank_text, one_waits}
 use Rattle.rvmc_explore.specs.Outcomes.{HasBody, IsEndBody, IsListOf, IsTextAt, any_need}
-use Rattle.rvmc_explore.specs.Recorded.{RecordsEnd}
+use Rattle.rvmc_explore.specs.Recorded.{LeadsTo, RecordsEnd}
 use Rattle.rvmc_explore.specs.Starting.{RecordsEndBehind}
 use Rattle.rvmc_explore.specs.Telling.{Tells}
 use Rattle.rvmc_starts.specs.declared.starts.Start.{Start}
@@ -47,26 +47,25 @@ pub record TellsEnd (image : ImageParts) (order : List ℕ) (buffered : Bool) (s
   pub begins : body ≡ rank_lines order end ++ waiting
   pub alone : some_waits order end ≡ false → waiting ≡ []
 
--- the steps are a run to a cluster of which the text of this number in the list is told
-pub record LeadsToText (image : ImageParts) (order : List ℕ) (told : List Outcome) (number : ℕ) (steps : List Step)
+-- the steps lead to the outcome of this number in the list
+pub record LeadsToText (image : ImageParts) (order : List ℕ) (left : ℕ) (told : List Outcome) (number : ℕ) (steps : List Step)
     : Type 0 where
-  pub end : Cluster
-  pub run : IsRun (loaded_cluster image) steps end
   pub outcome : Outcome
   pub place : ℕ
   pub numbered_from_1 : number ≡ suc place
   pub there : slice_get told place ≡ Some outcome
-  pub told_at : IsTextAt image order end outcome.body.items
+  pub leads : LeadsTo image order left outcome steps
 
 -- ---- the laws
 
 -- of lists of one image and one order, whatever their bounds. Where a premise says so, a search left no state
 pub record OneListLaw : Type 0 where
-  -- each text is told of a cluster to which a run by the order leads, with whatever bounds
+  -- each outcome's turns lead by the order to a node of which its text tells, with whatever bounds
   pub each : (image : ImageParts) (order : List ℕ) (buffered : Bool) (states turns : ℕ) (told : List Outcome)
-      → IsListOf image order buffered states turns told → (k : ℕ) (outcome : Outcome) → slice_get told k ≡ Some outcome
-      → (steps : List Step) × (node : Node) × IsWay (by_order order) (first_node image) steps node
-      × IsTextAt image order node.cluster outcome.body.items
+      → (listed : IsListOf image order buffered states turns told) → (k : ℕ) (outcome : Outcome)
+      → slice_get told k ≡ Some outcome
+      → (node : Node) × IsWay (by_order order) (first_node image) outcome.way node
+      × IsTextAt image order (listed.found).left node outcome.body.items
   -- each tells the end of every run by the order
   pub every : (image : ImageParts) (order : List ℕ) (buffered : Bool) (states turns : ℕ) (told : List Outcome)
       → (listed : IsListOf image order buffered states turns told) → (listed.found).left ≡ 0
@@ -84,13 +83,13 @@ pub record OneListLaw : Type 0 where
   -- the record of a number leads to the text of this number, in its list, with whatever bounds
   pub record_leads : (image : ImageParts) (order : List ℕ) (buffered : Bool) (states turns number : ℕ) (steps : List Step)
       → (recorded : RecordsEnd image order buffered states turns number (Some steps))
-      → LeadsToText image order recorded.told number steps
+      → LeadsToText image order ((recorded.listed).found).left recorded.told number steps
   -- and so does that behind a start
   pub record_leads_from : (image : ImageParts) (start : Start) (states turns number : ℕ) (steps : List Step)
       → (recorded : RecordsEndBehind image start states turns number (Some steps))
-      → LeadsToText image start.harts recorded.told number steps
-  -- it leads to an end that is told in the other list, unless somebody goes on there: others beside ranks that are stuck, or
-  -- ranks that need buffers
+      → LeadsToText image start.harts ((recorded.listed).found).left recorded.told number steps
+  -- it leads to an end that is told in the other list, unless somebody goes on there: others beside ranks that are stuck, ranks
+  -- that need buffers, or those of a state from which runs hang if sends wait
   pub records : (image : ImageParts) (order : List ℕ) (buffered copied : Bool) (states turns more longer number : ℕ)
       (steps : List Step) (other : List Outcome) → RecordsEnd image order buffered states turns number (Some steps)
       → (listed : IsListOf image order copied more longer other) → (listed.found).left ≡ 0

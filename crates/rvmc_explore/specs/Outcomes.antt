@@ -1,26 +1,28 @@
--- The outcomes that `explore` lists: ends, ranks that are stuck while others run on, and ranks that need buffers.
-use Rattle.std.specs.Prelude.{ℕ, ◌<◌, ◌≡◌, ◌⊎◌, List, [], Bool, false, true, length, slice_get, Some}
+-- The outcomes that `explore` lists: ends, ranks that are stuck while others run on, ranks that need buffers, and states from
+-- which runs hang if sends wait.
+use Rattle.std.specs.Prelude.{ℕ, ◌≡◌, ◌⊎◌, List, [], Bool, false, true, length, slice_get, Some}
 use Rattle.std.specs.List.{count_by, list_any}
 use Rattle.std.specs.Str.{bytes_eq}
 use Rattle.rv_image_types.specs.declared.images.ImageParts.{ImageParts}
 use Rattle.cl_order_laws.specs.Closed.{IsEnd, Node}
 use Rattle.cl_moves.specs.Standing.{IsWay, by_order, first_node}
-use Rattle.cl_explore.specs.Covering.{AreNodes}
+use Rattle.cl_explore.specs.Below.{IsVerdictOf}
 use Rattle.cl_explore.specs.Ends.{Findings}
 use Rattle.cl_explore.specs.Needing.{SaysNeeds}
 use Rattle.cl_explore.specs.declared.companies.Company.{Company}
 use Rattle.cl_explore.specs.declared.kept.KeptNode.{KeptNode}
 use Rattle.cl_explore.specs.declared.needs.Needs.{Needs}
-use Rattle.cl_machine.specs.Cluster.{Cluster}
 use Rattle.cl_machine.specs.declared.steps.Step.{Step}
+use Rattle.cl_patient_laws.specs.Patient.{HangsIfSendsWait}
 use Rattle.cl_replay.specs.States.{ClusterStandsFor}
 use Rattle.cl_replay.specs.declared.states.ClusterState.{ClusterState}
 use Rattle.cl_rests.specs.Needing.{IsNeed}
+use Rattle.cl_rests.specs.Sets.{AreResting}
 use Rattle.rvmc_picture.specs.Below.{company_text}
+use Rattle.rvmc_explore.specs.Beside.{OthersRunOn}
 use Rattle.rvmc_explore.specs.Ends.{IsEndText}
-use Rattle.rvmc_explore.specs.HangTexts.{IsHangBody, hang_text}
+use Rattle.rvmc_explore.specs.HangTexts.{hang_text}
 use Rattle.rvmc_explore.specs.Needs.{need_text}
-use Rattle.rvmc_explore.specs.Patient.{Hangs}
 use Rattle.rvmc_explore.specs.Searched.{GoesTo, IsSearched}
 use Rattle.rvmc_explore.specs.There.{IsKeptState}
 use Rattle.rvmc_explore.specs.declared.outcomes.Outcome.{Outcome}
@@ -45,21 +47,16 @@ pub record IsNeedBody (image : ImageParts) (kept : List KeptNode) (node : ℕ) (
   pub is : IsKeptState kept node state
   pub spelled : body ≡ need_text image state ranks
 
--- a text is told of this cluster: that of an end, of ranks that are stuck there, of the most that need buffers there, or of all
--- ranks where it hangs if sends wait
-pub record IsTextAt (image : ImageParts) (order : List ℕ) (cluster : Cluster) (body : List ℕ) : Type 0 where
+-- a text tells of this node, of a search that left so many states: of an end, where nobody goes on; of the most ranks that are
+-- stuck there together, while others run on; of the most that need buffers there; or of all ranks, where runs hang if sends wait
+pub record IsTextAt (image : ImageParts) (order : List ℕ) (left : ℕ) (node : Node) (body : List ℕ) : Type 0 where
   pub state : ClusterState
-  pub stands : ClusterStandsFor image state cluster
-  pub spelled : IsEndText order image state [] body
-      ⊎ (((ranks : List ℕ) × (body ≡ company_text image state ranks))
-      ⊎ (((ranks : List ℕ) × IsNeed ranks cluster × (body ≡ need_text image state ranks))
-      ⊎ ((set : ℕ) × (body ≡ hang_text image state set))))
-
--- the turns lead to whichever node is kept at this number
-abbrev pub LeadThere : List KeptNode → ℕ → List Step → Type 0
-LeadThere kept at turns =
-    (image : ImageParts) (order : List ℕ) (nodes : List Node) (here : Node) → AreNodes image order kept nodes
-    → slice_get nodes at ≡ Some here → IsWay (by_order order) (first_node image) turns here
+  pub stands : ClusterStandsFor image state node.cluster
+  pub spelled : (IsEnd (by_order order) node.cluster × IsEndText order image state [] body)
+      ⊎ (((ranks : List ℕ) × IsVerdictOf node.cluster (Some ranks) × OthersRunOn order ranks left node
+      × (body ≡ company_text image state ranks))
+      ⊎ (((ranks : List ℕ) × IsNeed ranks node.cluster × (body ≡ need_text image state ranks))
+      ⊎ ((set : ℕ) × AreResting set node.cluster × HangsIfSendsWait (by_order order) node × (body ≡ hang_text image state set))))
 
 -- what is told is that of an end, to which the outcome's turns lead by the order
 pub record IsEndOutcome (order : List ℕ) (image : ImageParts) (outcome : Outcome) : Type 0 where
@@ -82,31 +79,48 @@ pub record IsNeedOutcome (order : List ℕ) (image : ImageParts) (outcome : Outc
   pub told : outcome.body.items ≡ need_text image state ranks
   pub of_need : outcome.need ≡ true
 
--- or of a company that is stuck in a node that was found, to which they lead, and whose text no end has
-abbrev pub IsStuckOutcome : ImageParts → Findings → Outcome → Type 0
-IsStuckOutcome image found outcome =
-    (k : ℕ) × (company : Company) × (slice_get found.companies k ≡ Some company)
-    × LeadThere found.kept company.node outcome.way
-    × IsStuckBody image found.kept company outcome.body.items × (outcome.ends ≡ 0) × (outcome.need ≡ false)
+-- or of the most ranks that are stuck together in a node that was found, to which they lead by the order, while others run on. No
+-- move that was made leads on from there to an end that was found, and no end has this text
+pub record IsStuckOutcome (order : List ℕ) (image : ImageParts) (found : Findings) (outcome : Outcome) : Type 0 where
+  pub place : ℕ
+  pub company : Company
+  pub noted : slice_get found.companies place ≡ Some company
+  pub told : IsStuckBody image found.kept company outcome.body.items
+  pub node : Node
+  pub led : IsWay (by_order order) (first_node image) outcome.way node
+  pub stands : ClusterStandsFor image told.state node.cluster
+  pub stuck : IsVerdictOf node.cluster (Some company.ranks.items)
+  pub others : OthersRunOn order company.ranks.items found.left node
+  pub unled : ¬ GoesTo found.leads found.ends company.node
+  pub no_ends : outcome.ends ≡ 0
+  pub no_need : outcome.need ≡ false
 
--- or of a node that was found, to which they lead, and at which runs hang if sends wait, of a search that left no state
-pub record IsHangOutcome (image : ImageParts) (found : Findings) (outcome : Outcome) : Type 0 where
-  pub node : ℕ
+-- or of a node to which they lead by the order, from which runs hang if sends wait: it may still come to an end, but not if from
+-- there on each standard send waits for its receive. The search left no state, and sends might wait in it. Just the ranks of the
+-- set rest there
+pub record IsHangOutcome (order : List ℕ) (image : ImageParts) (found : Findings) (outcome : Outcome) : Type 0 where
   pub all : found.left ≡ 0
   pub waiting : found.may_wait ≡ true
-  pub inside : node < length found.kept
-  pub hangs : Hangs found node
-  pub leads : LeadThere found.kept node outcome.way
+  pub node : Node
+  pub led : IsWay (by_order order) (first_node image) outcome.way node
+  pub hangs : HangsIfSendsWait (by_order order) node
   pub set : ℕ
-  pub noted : (those : ℕ) → slice_get found.resting node ≡ Some those → set ≡ those
-  pub told : IsHangBody image found.kept node set outcome.body.items
-  pub uncounted : outcome.ends ≡ 0
+  pub resting : AreResting set node.cluster
+  pub state : ClusterState
+  pub stands : ClusterStandsFor image state node.cluster
+  pub told : outcome.body.items ≡ hang_text image state set
+  pub no_ends : outcome.ends ≡ 0
   pub no_need : outcome.need ≡ false
 
 abbrev pub IsOutcome : List ℕ → ImageParts → Findings → Outcome → Type 0
 IsOutcome order image found outcome =
     IsEndOutcome order image outcome
-    ⊎ (IsStuckOutcome image found outcome ⊎ (IsNeedOutcome order image outcome ⊎ IsHangOutcome image found outcome))
+    ⊎ (IsStuckOutcome order image found outcome
+    ⊎ (IsNeedOutcome order image outcome ⊎ IsHangOutcome order image found outcome))
+
+-- one that is printed while a search goes on: of an end, or of ranks that need buffers
+abbrev pub IsHeard : List ℕ → ImageParts → Outcome → Type 0
+IsHeard order image outcome = IsEndOutcome order image outcome ⊎ IsNeedOutcome order image outcome
 
 -- ---- all of them
 

@@ -76,7 +76,7 @@ pub record RecordsEndBehind (image : ImageParts) (start : Start) (states turns n
     : Type 0 where
   pub told : List Outcome
   pub listed : IsListFrom image start states turns told
-  pub leads : Leads image start.harts (numbered told number) steps
+  pub leads : Leads image start.harts (listed.found).left (numbered told number) steps
 
 -- ---- why not
 

@@ -3,9 +3,7 @@ use Rattle.std.specs.Prelude.{ℕ, ◌+◌, ◌≡◌, ◌++◌, ◌==◌, ◌&&
 use Rattle.std.specs.Fmt.{decimal}
 use Rattle.std.specs.List.{enumerate_from, flat_map, list_any}
 use Rattle.rv_image_types.specs.declared.images.ImageParts.{ImageParts}
-use Rattle.cl_machine.specs.declared.steps.Step.{Step}
-use Rattle.cl_order_laws.specs.Closed.{Node}
-use Rattle.cl_moves.specs.Standing.{IsWay, by_order, first_node}
+use Rattle.cl_moves.specs.Standing.{first_node}
 use Rattle.cl_explore.specs.Ends.{Findings}
 use Rattle.cl_explore.specs.declared.companies.Company.{Company}
 use Rattle.cl_explore.specs.declared.kept.KeptNode.{KeptNode}
@@ -15,7 +13,7 @@ use Rattle.rvmc_report.specs.Report.{has_trapped, newline}
 use Rattle.rvmc_explore.specs.Endless.{SaysEndsAnyway, SaysNoneNeed, SaysNoneStuck, SaysUnending}
 use Rattle.rvmc_explore.specs.Ends.{one_waits}
 use Rattle.rvmc_explore.specs.Hangs.{SaysHanging}
-use Rattle.rvmc_explore.specs.Outcomes.{AreApart, IsListOf, IsTextAt}
+use Rattle.rvmc_explore.specs.Outcomes.{AreApart, IsHeard, IsListOf, any_need}
 use Rattle.rvmc_explore.specs.declared.outcomes.Outcome.{Outcome}
 
 -- ---- one outcome
@@ -50,13 +48,12 @@ ends_line number ends =
 abbrev pub ends_lines : ℕ → List Outcome → List ℕ
 ends_lines number told = flat_map (λ outcome. ends_line outcome.0 outcome.1.ends) (enumerate_from number told)
 
--- outcomes, however far a search came: each text is told of a cluster to which a run by the order leads, and no two are the
--- same
-pub record IsBegun (image : ImageParts) (order : List ℕ) (text : List ℕ) : Type 0 where
+-- outcomes, however far a search came: each is of an end to which its turns lead by the order, or of the most ranks that need
+-- buffers where they lead; of such ranks there are none if every send is buffered. No two have the same text
+pub record IsBegun (image : ImageParts) (order : List ℕ) (buffered : Bool) (text : List ℕ) : Type 0 where
   pub told : List Outcome
-  pub each : (k : ℕ) (outcome : Outcome) → slice_get told k ≡ Some outcome
-      → (steps : List Step) × (node : Node) × IsWay (by_order order) (first_node image) steps node
-      × IsTextAt image order node.cluster outcome.body.items
+  pub each : (k : ℕ) (outcome : Outcome) → slice_get told k ≡ Some outcome → IsHeard order image outcome
+  pub no_need : buffered ≡ true → any_need told ≡ false
   pub apart : AreApart told
   pub lines : AddsOutcomes 1 told [] text
 

@@ -1,5 +1,7 @@
 //! Laws of searches: functions with empty bodies, whose contracts are the laws.
 
+ghost use Rattle.rvmc_explore.specs.BegunLaw.{BegunLaw};
+ghost use Rattle.rvmc_explore.specs.BesideLaw.{BesideLaw};
 ghost use Rattle.rvmc_explore.specs.OneList.{OneListLaw};
 ghost use Rattle.rvmc_explore.specs.SplitLaw.{SplitLaw};
 ghost use Rattle.rvmc_explore.specs.StatusLaw.{StatusLaw};
@@ -19,9 +21,9 @@ pub fn status_law()
     ensures { StatusLaw }
 {}
 
-/// If no state is left, there is only one answer for an image and an order: each text belongs to a place to which a run by the
-/// order leads, and no such run ends without its text. So any two searches tell the same ends, with the same status where both
-/// know the same of ranks that need buffers; and the record of a number leads to its text.
+/// If no state is left, there is only one answer for an image and an order: each text tells of the state to which its outcome's
+/// turns lead by the order, and no run by the order ends without its text. So any two searches tell the same ends, with the same
+/// status where both know the same of ranks that need buffers; and the record of a number leads to its text.
 pub fn one_list_law()
     ensures { OneListLaw }
 {}
@@ -29,4 +31,11 @@ pub fn one_list_law()
 /// Rows of nodes that hang if standard sends wait, and of nodes that don't.
 pub fn patient_rows()
     ensures { WorkedPatient }
+{}
+
+/// Where ranks are stuck while others run on, a rank that isn't among them can go on, so it is no end. If no state is left, the
+/// others run on for ever: wherever a run by the order leads from there, the ranks that are stuck are as they were, and somebody
+/// can go on. So the search says that some runs go on for ever.
+pub fn beside_law()
+    ensures { BesideLaw }
 {}

@@ -10,14 +10,16 @@ ghost use Rattle.rvmc_explore.specs.Searched.{IsExplored, IsWithin};
 use crate::ends::put_end;
 use crate::needs::put_need;
 use crate::telling::state_at;
-use crate::unending::leading_to;
+use crate::unending::{is_marked, leading_to};
 use cl_explore::{Company, Exploration, KeptNode, Runs, steps_to};
 use cl_machine::Step;
 use rv_image_types::Image;
 use rvmc_picture::put_company;
 use std::alloc::{AllocError, Global};
 
-/// What is told of a state that was found: an end, ranks that are stuck there while others run on, or ranks that need buffers.
+/// What is told of a state that was found: an end, ranks that are stuck there while others run on, ranks that need buffers, or
+/// that runs hang from there if sends wait. Others run on where a rank that isn't stuck can go on, and no end was found from
+/// there. If no state is left there is none.
 #[derive(Drop)]
 pub struct Outcome {
     /// The turns that lead there from the loaded cluster.
@@ -248,7 +250,8 @@ fn tell_ends(
     Ok(told)
 }
 
-/// Adds what is told of the ranks that are stuck in a node, unless it leads to an end, of which they are told.
+/// Adds what is told of the ranks that are stuck in a node, unless it leads to an end that was found, of which they are told. At
+/// any other node others run on.
 fn tell_company(
     alloc: Global,
     image: &Image,
@@ -260,7 +263,7 @@ fn tell_company(
     requires { company.now.node < length nodes.now }
     ensures { OnOk result (AreToldBeside image.now nodes.now marks.now company.now told.old.items told.new.items) }
 {
-    if *marks.get(company.node).unwrap_or(&false) {
+    if is_marked(marks, company.node) {
         return Ok(());
     }
     let body = stuck_body(alloc, image, nodes, company)?;
@@ -284,6 +287,8 @@ pub(crate) fn tell(
     ensures begins { IfOk result (λ told. BeginsWith heard.items told.items) }
     ensures needs { IfOk result (λ told. any_need told.items ≡ any_need heard.items) }
 {
+    // ghost: brings into scope that the parts are those of an image; no effect at run time
+    let _parts = image.parts();
     let mut told = tell_ends(alloc, image, order, found, heard)?;
     let nodes = found.nodes.as_slice();
     let leads = found.leads.as_slice();

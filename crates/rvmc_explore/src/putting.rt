@@ -116,14 +116,20 @@ fn rest_of(
 }
 
 /// Writes each outcome of a search on `out` when it is found: for an end its ranks, and what each waits for that waits there;
-/// for ranks that need buffers how they are held up; for ranks that are stuck while others run on, which come last, what they
-/// wait for; and the first message by which it differs from outcome 1. Behind them stands how many ends look like an outcome, if
-/// two or more do, whether some runs go on for ever, whether it is unknown if ranks need buffers, and in the last line whether the
-/// list is complete, or is so with buffered sends alone. No two outcomes have the same text. The status is 4 if the list isn't complete, else 3 if a hart trapped at an
-/// end, else 7 if a hart that takes turns waits at one, some ranks are stuck, or ranks need buffers, else 8 if some runs go on
-/// for ever, else 0. If asked for, lines on `err` say how far the search came.
+/// for ranks that need buffers how they are held up. Once the search is over it writes the others: for ranks that are stuck while
+/// others run on, what they wait for; for a state from which runs hang if sends wait, how each rank stands there. Each begins
+/// with the first message by which it differs from outcome 1. Behind them stands how many ends look like an outcome, if two or
+/// more do, whether some runs go on for ever, whether it is unknown if ranks need buffers, and in the last line whether the list
+/// is complete, or is so with buffered sends alone. No two outcomes have the same text. The status is 4 if the list isn't
+/// complete, else 3 if a hart trapped at an end, else 7 if a hart that takes turns waits at one, some ranks are stuck, ranks need
+/// buffers, or runs hang if sends wait, else 8 if some runs go on for ever, else 0. If asked for, lines on `err` say how far the
+/// search came.
 ///
-/// Refusals: Clock, Memory. Outcomes that were written before stay. If the writer doesn't take all, the result says so.
+/// Others run on where a rank that isn't stuck can go on, and no end was found from there. If no state is left there is none, and
+/// they run on for ever.
+///
+/// Refusals: Clock, Memory. Outcomes that were written before stay: ends, and ranks that need buffers. If the writer doesn't take
+/// all, the result says so.
 #[tactic(auto, using(crate::proofs::Heard::cut_by, crate::proofs::Heard::whole_by))]
 pub fn put_explored<O: Write, E: Write>(
     alloc: Global,
@@ -136,7 +142,7 @@ pub fn put_explored<O: Write, E: Write>(
     ensures told { IfOk result (λ searched. searched.taken ≡ true → (text : List ℕ)
         × Tells image.now asked.now.order.now asked.now.buffered asked.now.states asked.now.turns text searched.status
         × Appends (O.contents out.old) (O.contents out.new) text) }
-    ensures cut { IfErr result (λ fault. (text : List ℕ) × IsBegun image.now asked.now.order.now text
+    ensures cut { IfErr result (λ fault. (text : List ℕ) × IsBegun image.now asked.now.order.now asked.now.buffered text
         × Appends (O.contents out.old) (O.contents out.new) text) }
     ensures progress { TellsProgress asked.now.progress (E.contents err.old) (E.contents err.new) }
 {

@@ -9,3 +9,4 @@ pub mod Unreceived
 pub mod Why
 pub mod EndTexts
 pub mod OneText
+pub mod Begun

@@ -118,7 +118,7 @@ module _ (image : ImageParts) (order : List ℕ) (buffered : Bool) (states turns
   tells_at end tells = told_at image order listed.found explored tells.number tells.node tells.body tells.there tells.is
 
   -- the text of an end of whatever list is in this one, where no state is left
-  text_there : (listed.found).left ≡ 0 → (outcome : Outcome) → IsEndOutcome order image outcome
+  pub text_there : (listed.found).left ≡ 0 → (outcome : Outcome) → IsEndOutcome order image outcome
       → HasBody told outcome.body.items
   text_there whole outcome is =
       let end = (is.node).cluster in

@@ -1,2 +1,3 @@
 pub mod Laws
 pub mod OneText
+pub mod Begun

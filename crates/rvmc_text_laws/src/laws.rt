@@ -1,5 +1,6 @@
 //! Laws of what is told of alike states: functions with empty bodies, whose contracts are the laws.
 
+ghost use Rattle.rvmc_text_laws.specs.Begun.{BegunLaw};
 ghost use Rattle.rvmc_text_laws.specs.Laws.{WhyLaw};
 ghost use Rattle.rvmc_text_laws.specs.OneText.{EndTextLaw, OneTextLaw};
 
@@ -17,4 +18,11 @@ pub fn end_text_law()
 /// the text of each end that any search finds. So two such lists have the same texts of ends, whatever else they name.
 pub fn one_text_law()
     ensures { OneTextLaw }
+{}
+
+/// The text of each end that `explore` printed before memory was refused is in the list of each search of that image and order
+/// that left no state. Every other outcome that it printed is of ranks that need buffers where its turns lead. There are none
+/// of those if every send was buffered, or if sends might wait in such a search.
+pub fn begun_law()
+    ensures { BegunLaw }
 {}

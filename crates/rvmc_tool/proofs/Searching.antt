@@ -53,6 +53,6 @@ module _ (image : ImageParts) (harts : Option (List ℕ)) (buffered : Bool) (sta
   refused_by number other is = absurd is
 
   -- outcomes that were found before memory was refused
-  pub cut_by : (progress : Bool) (text : List ℕ) → IsBegun image (listed harts image.harts) text
+  pub cut_by : (progress : Bool) (text : List ℕ) → IsBegun image (listed harts image.harts) buffered text
       → IsCutSearch (Explore harts states turns None buffered progress) image text
   cut_by progress text begun = (by.0, by.1, (by.2, begun))

@@ -13,8 +13,8 @@ use Rattle.rvmc_answers.specs.Ends.{IsFaulty}
 use Rattle.rvmc_answers.specs.Images.{image_in}
 use Rattle.rvmc_answers.specs.Plans.{ByPlans, listed}
 
--- the text of the record of the outcome of this number in the list of what is told: of a run by the order to a cluster where
--- nobody goes on, or some ranks are stuck, or need buffers
+-- the text of the record of the outcome of this number in the list of what is told: of a run by the order to where nobody goes
+-- on, or some ranks are stuck while others run on, or some need buffers, or runs hang if sends wait
 pub record IsEndRecord (image : ImageParts) (order : List ℕ) (buffered : Bool) (states turns number : ℕ) (text : List ℕ)
     : Type 0 where
   pub steps : List Step
@@ -34,10 +34,10 @@ IsToldOfSearch image order buffered states turns None text status = Tells image 
 IsToldOfSearch image order buffered states turns (Some number) text status =
     IsRecordOfEnd image order buffered states turns number text status
 
--- what is told of a search that is cut short: outcomes to which its order leads, by right plans
+-- what is told of a search that is cut short: ends, and ranks that need buffers, to which its order leads, by right plans
 abbrev pub IsCutSearch : ImageCommand → ImageParts → List ℕ → Type 0
 IsCutSearch (Explore plan states turns None buffered progress) image text =
-    ByPlans image turns plan (λ plans. HasPlans image plans × IsBegun image (listed plan image.harts) text)
+    ByPlans image turns plan (λ plans. HasPlans image plans × IsBegun image (listed plan image.harts) buffered text)
 IsCutSearch other image text = ⊥
 
 -- the same of the bytes from which the image is taken

@@ -1,6 +1,6 @@
 use Rattle.std.proofs.Common.{List, refl, subst, sym, ◌∙◌}
 use Rattle.cl_machine.specs.declared.steps.Step.{Step}
-use Rattle.rvmc_explore.specs.Outcomes.{LeadThere}
+use Rattle.rvmc_explore.specs.InnerOutcomes.{LeadThere}
 use Rattle.rvmc_explore.proofs.outcomes.outcome_of.Goals as goal
 
 pub returns : goal.returns

@@ -2,9 +2,11 @@ use Rattle.std.proofs.Common.{List, arith, subst, sym, ◌∙◌}
 use Rattle.std.proofs.lemmas.Option.{slice_get_read}
 use Rattle.cl_explore.specs.Ends.{findings}
 use Rattle.cl_explore.specs.declared.leads.Lead.{Lead}
+use Rattle.rvmc_explore.specs.Endless.{AreComplete}
 use Rattle.rvmc_explore.specs.InnerOutcomes.{AreToldBeside}
 use Rattle.rvmc_explore.specs.Searched.{AreSound}
 use Rattle.rvmc_explore.proofs.Listed.{all_told, ends_alone, one_company}
+use Rattle.rvmc_explore.proofs.Unmarked.{AreWhole}
 use Rattle.rvmc_explore.proofs.outcomes.tell.Goals as goal
 
 pub loop-place-init : goal.loop-place-init
@@ -23,11 +25,18 @@ loop-place-preserved c =
     let new = c.tell_company.new.told.items in
     let at = slice_get_read companies.items c.len-place-end.result c.loop-place.place company
     (c.len-place-end.ensures ∙ companies.ok.0) c.loop-place-test.true c.index-company.ensures in
-    let led = subst (λ (ls : List Lead). AreSound ls c.as_slice-ends.result.now c.in_ok-marks.marks.items)
-    c.as_slice-leads.ensures.value c.in_ok-marks.ensures.sound in
-    let sound = subst (λ ends. AreSound found.leads.items ends c.in_ok-marks.marks.items) c.as_slice-ends.ensures.value led in
-    one_company c.args.order.now image (findings found) c.args.heard.items c.loop-place.place marks company old new at
+    let ends = c.as_slice-ends.result.now in
+    let sound = subst (λ (es : List ℕ). AreSound found.leads.items es c.in_ok-marks.marks.items) c.as_slice-ends.ensures.value
+    (subst (λ (ls : List Lead). AreSound ls ends c.in_ok-marks.marks.items) c.as_slice-leads.ensures.value
+    c.in_ok-marks.ensures.sound) in
+    let complete = subst (λ (es : List ℕ). AreComplete found.leads.items es c.in_ok-marks.marks.items) c.as_slice-ends.ensures.value
+    (subst (λ (ls : List Lead). AreComplete ls ends c.in_ok-marks.marks.items) c.as_slice-leads.ensures.value
+    c.in_ok-marks.ensures.complete) in
+    let many = c.in_ok-marks.ensures.many ∙ (c.len.ensures ∙ found.nodes.ok.0) in
+    one_company c.args.order.now image (findings found) c.requires.explored c.parts-parts.ensures.limits c.args.heard.items
+    c.loop-place.place marks company old new at
     (subst (AreSound found.leads.items found.ends.items) (sym c.as_slice-in-loop-place.ensures.value) sound)
+    (subst (AreWhole (findings found)) (sym c.as_slice-in-loop-place.ensures.value) (many, complete))
     (subst (λ kept. AreToldBeside image kept marks company old new) c.as_slice-nodes.ensures.value
     c.in_ok-tell_company.ensures) c.loop-place.invariant
 

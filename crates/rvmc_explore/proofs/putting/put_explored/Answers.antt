@@ -15,8 +15,9 @@ returns-in_err-found-clause-cut g c =
     (subst (λ o. WereTold teller.told.items teller.taken (g.O.Write.contents c.new-teller.result.out.now) (g.O.Write.contents o))
     (sym there) c.search_telling-found.ensures.told) in
     whatever_err c.from_residual.result _
-    (cut_by c.args.asked.now.order.now c.args.image.now teller.told.items teller.taken (g.O.Write.contents c.args.out.now)
-    (g.O.Write.contents given.0) c.search_telling-found.ensures.heard told c.if-not-taken.false)
+    (cut_by c.args.asked.now.order.now c.args.image.now c.args.asked.now.buffered teller.told.items teller.taken
+    (g.O.Write.contents c.args.out.now) (g.O.Write.contents given.0) c.search_telling-found.ensures.heard
+    c.search_telling-found.ensures.no_need told c.if-not-taken.false)
 
 pub returns-in_err-text-clause-cut : goal.returns-in_err-text-clause-cut
 returns-in_err-text-clause-cut g c =
@@ -29,8 +30,9 @@ returns-in_err-text-clause-cut g c =
     (subst (λ o. WereTold teller.told.items teller.taken (g.O.Write.contents c.new-teller.result.out.now) (g.O.Write.contents o))
     (sym there) c.search_telling-found.ensures.told) in
     whatever_err c.from_residual-in_err-text.result _
-    (cut_by c.args.asked.now.order.now c.args.image.now teller.told.items teller.taken (g.O.Write.contents c.args.out.now)
-    (g.O.Write.contents given.0) c.search_telling-found.ensures.heard told c.if-not-taken.false)
+    (cut_by c.args.asked.now.order.now c.args.image.now c.args.asked.now.buffered teller.told.items teller.taken
+    (g.O.Write.contents c.args.out.now) (g.O.Write.contents given.0) c.search_telling-found.ensures.heard
+    c.search_telling-found.ensures.no_need told c.if-not-taken.false)
 
 pub returns-clause-told : goal.returns-clause-told
 returns-clause-told g c = λ all.

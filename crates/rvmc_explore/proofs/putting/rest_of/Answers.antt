@@ -69,7 +69,8 @@ returns c = λ before lines.
       listed = record {
         found = findings found;
         searched = c.requires.searched;
-        are = hung order image (findings found) found.needs ended whole first_told told hangs c.in_ok-told.ensures.told tells;
+        are = hung order image (findings found) found.needs ended whole first_told told hangs c.parts-parts.ensures.limits
+            explored c.in_ok-told.ensures.told tells;
         no_need = λ copied. hung_needs order image (findings found) found.needs ended whole first_told told hangs tells
             ∙ c.in_ok-told.ensures.needs ∙ c.requires.no_need copied;
         needs = found.needs;

@@ -46,7 +46,8 @@ returns-clause-steps g c =
     (record {
       found = findings c.in_ok-found.found;
       searched = c.in_ok-found.ensures.searched;
-      are = hung order image (findings found) found.needs ended whole first_told told hangs c.in_ok-told.ensures.told tells;
+      are = hung order image (findings found) found.needs ended whole first_told told hangs c.parts-parts.ensures.limits
+          (c.in_ok-found.ensures.searched).explored c.in_ok-told.ensures.told tells;
       no_need = λ copied. hung_needs order image (findings found) found.needs ended whole first_told told hangs tells
           ∙ c.in_ok-told.ensures.needs ∙ c.search_hearing.ensures.no_need copied;
       needs = (c.in_ok-found.found).needs;
