@@ -14,20 +14,34 @@ use Rattle.cl_explore.proofs.Keeping.{node_found}
 use Rattle.cl_explore.proofs.Lists.{at_last, stays_at}
 use Rattle.cl_replay.specs.States.{ClusterStandsFor}
 use Rattle.rvmc_explore.specs.InnerOutcomes.{BeginsWith, bodies_told}
+use Rattle.rvmc_explore.specs.Needs.{need_text}
 use Rattle.rvmc_explore.specs.Outcomes.{HasBody, IsNeedBody, IsNeedOutcome, ListsNeed}
 use Rattle.rvmc_explore.specs.declared.outcomes.Outcome.{Outcome}
 use Rattle.rvmc_explore.proofs.Heard.{first_or, tail_of}
 
 -- ---- lists of them
 
+-- those of one list, told in another one
+listed_by : (image : ImageParts) (order : List ℕ) (one other : List Outcome) (l : ListsNeed image order one)
+    → HasBody other (need_text image l.state l.ranks) → ListsNeed image order other
+listed_by image order one other l listed = record {
+  steps = l.steps;
+  node = l.node;
+  way = l.way;
+  ranks = l.ranks;
+  need = l.need;
+  state = l.state;
+  stands = l.stands;
+  listed = listed;
+}
+
 -- behind one more
 pub stays_listed : (image : ImageParts) (order : List ℕ) (old new : List Outcome) (outcome : Outcome)
     → new ≡ old ++ outcome ∷ [] → ListsNeed image order old → ListsNeed image order new
 stays_listed image order old new outcome is l =
     let v = l.listed in
-    record l {
-      listed = (v.0, v.1, subst (λ os. slice_get os v.0 ≡ Some v.1) (sym is) (stays_at old outcome v.0 v.1 v.2), v.3);
-    }
+    listed_by image order old new l
+    (v.0, v.1, subst (λ os. slice_get os v.0 ≡ Some v.1) (sym is) (stays_at old outcome v.0 v.1 v.2), v.3)
 
 -- one more that is of such ranks
 pub now_listed : (image : ImageParts) (order : List ℕ) (old new : List Outcome) (outcome : Outcome)
@@ -82,7 +96,7 @@ pub begun_listed : (image : ImageParts) (order : List ℕ) (first told : List Ou
     → ListsNeed image order first → ListsNeed image order told
 begun_listed image order first told begins l =
     let v = l.listed in
-    record l { listed = subst (HasBody told) v.3 (has_begun first told begins.0 begins.1 v.0 v.1 v.2) }
+    listed_by image order first told l (subst (HasBody told) v.3 (has_begun first told begins.0 begins.1 v.0 v.1 v.2))
 
 -- ---- what a search knows of them
 

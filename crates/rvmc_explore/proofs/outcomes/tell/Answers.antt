@@ -20,7 +20,7 @@ loop-place-preserved c =
     let found = c.args.found.now in
     let companies = found.companies in
     let company = c.index-company.result.now in
-    let marks = c.as_slice-in-loop-place.result.now in
+    let marks = c.as_slice.result.now in
     let old = c.loop-place.told.items in
     let new = c.tell_company.new.told.items in
     let at = slice_get_read companies.items c.len-place-end.result c.loop-place.place company
@@ -35,8 +35,8 @@ loop-place-preserved c =
     let many = c.in_ok-marks.ensures.many ∙ (c.len.ensures ∙ found.nodes.ok.0) in
     one_company c.args.order.now image (findings found) c.requires.explored c.parts-parts.ensures.limits c.args.heard.items
     c.loop-place.place marks company old new at
-    (subst (AreSound found.leads.items found.ends.items) (sym c.as_slice-in-loop-place.ensures.value) sound)
-    (subst (AreWhole (findings found)) (sym c.as_slice-in-loop-place.ensures.value) (many, complete))
+    (subst (AreSound found.leads.items found.ends.items) (sym c.as_slice.ensures.value) sound)
+    (subst (AreWhole (findings found)) (sym c.as_slice.ensures.value) (many, complete))
     (subst (λ kept. AreToldBeside image kept marks company old new) c.as_slice-nodes.ensures.value
     c.in_ok-tell_company.ensures) c.loop-place.invariant
 

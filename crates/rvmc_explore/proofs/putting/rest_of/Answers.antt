@@ -33,12 +33,12 @@ returns c = λ before lines.
     let heard = c.args.heard in
     let first_told = c.in_ok-told.told.items in
     let told = c.tell_hang.new.told.items in
-    let whole = whole_by c.args.asked.now.buffered image (findings found) (ListsNeed image order heard.items) found.needs
+    let known = whole_by c.args.asked.now.buffered image (findings found) (ListsNeed image order heard.items) found.needs
     c.requires.needs in
     let ended = c.in_ok-unending.unending in
     let hangs = c.in_ok-hanging.hanging in
     let tells = c.in_ok-hanging.ensures in
-    let begins = hung_begins order image (findings found) found.needs ended whole heard.items first_told told hangs
+    let begins = hung_begins order image (findings found) found.needs ended known heard.items first_told told hangs
     c.in_ok-told.ensures.begins tells in
     let body = c.put_told.new.text.items in
     let counts = ends_lines 1 told in
@@ -69,9 +69,9 @@ returns c = λ before lines.
       listed = record {
         found = findings found;
         searched = c.requires.searched;
-        are = hung order image (findings found) found.needs ended whole first_told told hangs c.parts-parts.ensures.limits
+        are = hung order image (findings found) found.needs ended known first_told told hangs c.parts-parts.ensures.limits
             explored c.in_ok-told.ensures.told tells;
-        no_need = λ copied. hung_needs order image (findings found) found.needs ended whole first_told told hangs tells
+        no_need = λ copied. hung_needs order image (findings found) found.needs ended known first_told told hangs tells
             ∙ c.in_ok-told.ensures.needs ∙ c.requires.no_need copied;
         needs = found.needs;
         needs_are = says_on c.args.asked.now.buffered image (findings found) (ListsNeed image order heard.items)
@@ -89,7 +89,7 @@ returns c = λ before lines.
       lines = all_behind heard.items told begins before body lines those;
       spelled = ap (λ (text : List ℕ). before ++ text) whole ∙ sym (append_assoc before body (counts ++ (line ++ (unknown ++ last))));
       hanging = hangs;
-      hanging_is = says_hanging order image (findings found) found.needs ended whole first_told told hangs
+      hanging_is = says_hanging order image (findings found) found.needs ended known first_told told hangs
           c.parts-parts.ensures.limits explored c.in_ok-unending.ensures.each tells;
       status_is = search rules;
     }

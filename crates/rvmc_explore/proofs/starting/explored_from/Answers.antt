@@ -1,4 +1,4 @@
-use Rattle.std.proofs.Common.{List, ℕ, ◌++◌, ◌∙◌, ap, refl, subst, sym}
+use Rattle.std.proofs.Common.{List, ℕ, ◌++◌, ◌∙◌, ap, false, refl, subst, sym}
 use Rattle.cl_explore.specs.Ends.{ExploredFrom, findings}
 use Rattle.rvmc_starts.specs.Parts.{part_text}
 use Rattle.rvmc_starts.specs.declared.parts.Part.{Part}
