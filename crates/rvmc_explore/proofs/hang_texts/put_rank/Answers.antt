@@ -80,8 +80,8 @@ returns c =
     let awake : in_set c.args.resting c.args.rank ≡ false = search rules in
     let symbols : image.symbols ≡ c.as_slice-symbols.result.now = search rules in
     let told : OnOk c.put_awake.result (c.put_awake.new.text.items ≡ old ++ awake_text image c.args.state.now
-        c.from-number.result c.in-Some.own.now (running (slice_get (rank_of c.in-Some.own.now).harts 0)))
-        = c.put_awake.ensures image symbols in
+    c.from-number.result c.in-Some.own.now (running (slice_get (rank_of c.in-Some.own.now).harts 0)))
+    = c.put_awake.ensures image symbols in
     subst (λ more. OnOk c.put_awake.result (c.put_awake.new.text.items ≡ old ++ more))
     (sym (going_text image c.args.state.now c.args.resting c.args.rank c.in-Some.own.now there live awake))
     (subst (λ number. OnOk c.put_awake.result (c.put_awake.new.text.items ≡ old ++ awake_text image c.args.state.now
