@@ -572,9 +572,9 @@ one_company order image found explored right heard count marks company old new a
       needs = so_far.needs;
     })
 one_company order image found explored right heard count marks company old new at sound whole (inr more) so_far =
-    let body = more.1 in
-    let is = more.2 in
-    let adds = more.3 in
+    let body = (more.1).0 in
+    let is = (more.1).1 in
+    let adds = (more.1).2 in
     let grows = by_stuck found.kept old new company.node body adds in
     record {
       each = λ k outcome there. elim (was_stuck found.kept old new company.node body adds k outcome there) [

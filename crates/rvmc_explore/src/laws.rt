@@ -1,6 +1,5 @@
 //! Laws of searches: functions with empty bodies, whose contracts are the laws.
 
-ghost use Rattle.rvmc_explore.specs.BegunLaw.{BegunLaw};
 ghost use Rattle.rvmc_explore.specs.BesideLaw.{BesideLaw};
 ghost use Rattle.rvmc_explore.specs.OneList.{OneListLaw};
 ghost use Rattle.rvmc_explore.specs.SplitLaw.{SplitLaw};

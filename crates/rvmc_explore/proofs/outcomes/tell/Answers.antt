@@ -1,4 +1,4 @@
-use Rattle.std.proofs.Common.{List, arith, subst, sym, ◌∙◌}
+use Rattle.std.proofs.Common.{List, ℕ, arith, subst, sym, ◌∙◌}
 use Rattle.std.proofs.lemmas.Option.{slice_get_read}
 use Rattle.cl_explore.specs.Ends.{findings}
 use Rattle.cl_explore.specs.declared.leads.Lead.{Lead}
