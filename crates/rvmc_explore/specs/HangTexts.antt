@@ -1,5 +1,5 @@
 -- The text that `explore` prints of a state from which no run ends if standard sends wait for their receives.
-use Rattle.std.specs.Prelude.{ℕ, ◌≡◌, ◌-◌, false, if◌then◌else◌, List, [], ◌∷◌, ◌++◌, codes, length, take, Option, Some, None, slice_get}
+use Rattle.std.specs.Prelude.{ℕ, ◌-◌, false, if◌then◌else◌, List, [], ◌∷◌, ◌++◌, codes, length, take, Option, Some, None, slice_get}
 use Rattle.std.specs.List.{flat_map}
 use Rattle.rv_hart.specs.State.{State}
 use Rattle.rv_hart.specs.declared.state.Mode.{Mode}
@@ -11,14 +11,12 @@ use Rattle.cl_state.specs.Room.{rank_of}
 use Rattle.cl_state.specs.declared.state.RankState.{RankState}
 use Rattle.cl_replay.specs.declared.states.ClusterState.{ClusterState}
 use Rattle.cl_rests.specs.Sets.{in_set}
-use Rattle.cl_explore.specs.declared.kept.KeptNode.{KeptNode}
 use Rattle.rvmc_report.specs.Report.{newline}
 use Rattle.rvmc_places.specs.OwnCalls.{has_line, is_in_library, own_place_text}
 use Rattle.rvmc_places.specs.Places.{named_address_text, place_name}
 use Rattle.rvmc_inspect.specs.Texts.{hart_head, hart_waits_text}
 use Rattle.rvmc_inspect.specs.Why.{is_live, live_ranks, rank_names}
 use Rattle.rvmc_explore.specs.Needs.{held_text}
-use Rattle.rvmc_explore.specs.There.{IsKeptState}
 
 -- ---- a rank that goes on
 
@@ -87,9 +85,3 @@ hang_line state ranks =
 -- how each rank stands that hasn't stopped, in order, where those of the set rest, and that some runs go on for ever
 abbrev pub hang_text : ImageParts → ClusterState → ℕ → List ℕ
 hang_text image state resting = flat_map (hang_rank_text image state resting) each_rank ++ hang_line state each_rank
-
--- the text of the node of this number, at which the ranks of the set rest
-pub record IsHangBody (image : ImageParts) (kept : List KeptNode) (node resting : ℕ) (body : List ℕ) : Type 0 where
-  pub state : ClusterState
-  pub is : IsKeptState kept node state
-  pub spelled : body ≡ hang_text image state resting

@@ -1,14 +1,17 @@
 -- Where runs hang if sends wait, as it is told.
 use Rattle.std.specs.Prelude.{ℕ, ◌≡◌, ◌<◌, Bool, false, true, List, Option, None, Some, length, slice_get}
 use Rattle.rv_image_types.specs.declared.images.ImageParts.{ImageParts}
+use Rattle.cl_replay.specs.declared.states.ClusterState.{ClusterState}
 use Rattle.cl_explore.specs.Ends.{Findings}
+use Rattle.cl_explore.specs.declared.kept.KeptNode.{KeptNode}
 use Rattle.cl_explore.specs.declared.needs.Needs.{Needs}
 use Rattle.cl_explore.specs.declared.needs.Needs.TheVariants as needs
-use Rattle.rvmc_explore.specs.HangTexts.{IsHangBody}
+use Rattle.rvmc_explore.specs.HangTexts.{hang_text}
 use Rattle.rvmc_explore.specs.InnerOutcomes.{AddsStuck}
 use Rattle.rvmc_explore.specs.InnerPatient.{TellsHanging}
 use Rattle.rvmc_explore.specs.Patient.{Hangs}
 use Rattle.rvmc_explore.specs.Searched.{GoesTo}
+use Rattle.rvmc_explore.specs.There.{IsKeptState}
 use Rattle.rvmc_explore.specs.declared.outcomes.Outcome.{Outcome}
 
 -- moves lead from each node to an end
@@ -20,6 +23,12 @@ abbrev pub TellsHangingIn : Findings → Needs → Bool → Option ℕ → Type 
 TellsHangingIn found known unending None = known ≡ needs.Nobody → unending ≡ false → TellsHanging found None
 TellsHangingIn found known unending (Some i) =
     (known ≡ needs.Nobody) × (unending ≡ false) × (i < length found.kept) × Hangs found i
+
+-- the text of the node of this number, at which the ranks of the set rest
+pub record IsHangBody (image : ImageParts) (kept : List KeptNode) (node resting : ℕ) (body : List ℕ) : Type 0 where
+  pub state : ClusterState
+  pub is : IsKeptState kept node state
+  pub spelled : body ≡ hang_text image state resting
 
 -- these ranks were noted to rest at the node of this number, if some were
 abbrev pub AreNoted : List ℕ → ℕ → ℕ → Type 0

@@ -6,7 +6,8 @@ ghost use Rattle.rv_image_types.specs.declared.images.ImageParts.{ImageParts};
 ghost use Rattle.cl_state.specs.Room.{rank_of};
 ghost use Rattle.rvmc_places.specs.OwnCalls.{has_line};
 ghost use Rattle.rvmc_inspect.specs.Why.{is_live};
-ghost use Rattle.rvmc_explore.specs.HangTexts.{IsHangBody, awake_text, calling_text, going_line, going_place, hang_line, hang_rank_text, hang_text, running};
+ghost use Rattle.rvmc_explore.specs.Hanging.{IsHangBody};
+ghost use Rattle.rvmc_explore.specs.HangTexts.{awake_text, calling_text, going_line, going_place, hang_line, hang_rank_text, hang_text, running};
 
 use crate::needs::{hart_head, put_held};
 use crate::telling::state_at;

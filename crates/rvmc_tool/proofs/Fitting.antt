@@ -15,18 +15,18 @@ use Rattle.rvmc_explore.specs.declared.outcomes.Outcome.{Outcome}
 use Rattle.rvmc_starts.specs.declared.starts.Start.{Start}
 use Rattle.rvmc_answers.specs.Plans.{ArePlansOf, IsPlanOf}
 
-fit_by : (image : ImageParts) (order : List ℕ) (steps : List Step) (found : Option Outcome) → IsImage image
-    → Leads image order found (Some steps) → All (FitsStep image) steps
-fit_by image order steps None is leads = absurd leads
-fit_by image order steps (Some outcome) is leads = runs_fit image steps (leads.node).cluster is leads.run
+fit_by : (image : ImageParts) (order : List ℕ) (left : ℕ) (steps : List Step) (found : Option Outcome) → IsImage image
+    → Leads image order left found (Some steps) → All (FitsStep image) steps
+fit_by image order left steps None is leads = absurd leads
+fit_by image order left steps (Some outcome) is leads = runs_fit image steps (leads.node).cluster is leads.run
 
 pub ends_fit : (image : ImageParts) (order : List ℕ) (buffered : Bool) (states turns number : ℕ) (steps : List Step)
     → IsImage image → RecordsEnd image order buffered states turns number (Some steps) → All (FitsStep image) steps
-ends_fit image order buffered states turns number steps is recorded = fit_by image order steps _ is recorded.leads
+ends_fit image order buffered states turns number steps is recorded = fit_by image order _ steps _ is recorded.leads
 
 pub ends_behind_fit : (image : ImageParts) (start : Start) (states turns number : ℕ) (steps : List Step) → IsImage image
     → RecordsEndBehind image start states turns number (Some steps) → All (FitsStep image) steps
-ends_behind_fit image start states turns number steps is recorded = fit_by image start.harts steps _ is recorded.leads
+ends_behind_fit image start states turns number steps is recorded = fit_by image start.harts _ steps _ is recorded.leads
 
 -- the harts of right plans are some
 pub names_one : (image : ImageParts) (order : List ℕ) (budget : ℕ) (plans : List Plan) → 1 ≤ image.ranks

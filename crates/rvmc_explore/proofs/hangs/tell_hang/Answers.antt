@@ -1,8 +1,7 @@
 use Rattle.std.proofs.Common.{List, Some, subst}
 use Rattle.cl_explore.specs.Ends.{findings}
 use Rattle.cl_explore.specs.declared.kept.KeptNode.{KeptNode}
-use Rattle.rvmc_explore.specs.HangTexts.{IsHangBody}
-use Rattle.rvmc_explore.specs.Hanging.{TellsHangingIn}
+use Rattle.rvmc_explore.specs.Hanging.{IsHangBody, TellsHangingIn}
 use Rattle.rvmc_explore.specs.InnerOutcomes.{AddsStuck}
 use Rattle.rvmc_explore.proofs.hangs.tell_hang.Goals as goal
 
