@@ -445,8 +445,8 @@ class Resting(Search):
         super().__init__(image, plan, False, most)
         # what is told of ranks that need buffers in one of these states
         self.needs = set()
-        # all states, those that are ends, and those in which nobody goes on; and from which states each was come to, by a turn of any
-        # rank and of one that doesn't rest
+        # all states, those that are ends, and those in which nobody goes on; and from which states each was come to, by a
+        # turn of any rank and of one that doesn't rest
         self.states, self.stops, self.still = {}, [], []
         self.before, self.patient = collections.defaultdict(list), collections.defaultdict(list)
 
@@ -465,7 +465,7 @@ class Resting(Search):
             self.still.append(state.key)
 
     def is_still(self, state, rank):
-        """Whether a rank is stopped, or waits for what isn't there, or would: before a WAITALL of a send and of what isn't there."""
+        """Whether a rank is stopped, or waits for what isn't there, or would: before a WAITALL of a send and of such a thing."""
         if not self.stays(rank, state.hub):
             return self.rests(state, rank.number, 0)
         step = self.turn(state, rank.number, 0)[2]
