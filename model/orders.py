@@ -275,12 +275,15 @@ class Search:
     def moves(self, state):
         """The states that one turn leads to, also a look that misses what is there."""
         for number, rank in enumerate(state.ranks):
-            if self.is_done(rank):
-                continue
-            after, kind = self.behind(state, number)
-            yield after
-            if kind in (TAKE, FREED):
-                yield self.behind(state, number, True)[0]
+            if not self.is_done(rank):
+                yield from self.moves_of(state, number)
+
+    def moves_of(self, state, number):
+        """The states that a rank's next turn leads to."""
+        after, kind = self.behind(state, number)
+        yield after
+        if kind in (TAKE, FREED):
+            yield self.behind(state, number, True)[0]
 
     def rests(self, state, number, hart):
         """Whether a hart is stopped, or waits for what isn't there."""
@@ -442,6 +445,10 @@ class Resting(Search):
         super().__init__(image, plan, False, most)
         # what is told of ranks that need buffers in one of these states
         self.needs = set()
+        # all states, those that are ends, and those in which nobody goes on; and from which states each was come to, by a
+        # turn of any rank and of one that doesn't rest
+        self.states, self.stops, self.still = {}, [], []
+        self.before, self.patient = collections.defaultdict(list), collections.defaultdict(list)
 
     def stays(self, rank, hub):
         return why.rest_of(hub, rank, [list(range(self.image.ranks)), *self.image.comms]) is not None
@@ -451,6 +458,32 @@ class Resting(Search):
 
     def see(self, state):
         self.needs |= {why.told_of_need(self.around(state))} - {b""}
+        self.states[state.key] = state
+        if self.is_end(state):
+            self.stops.append(state.key)
+        if all(self.is_still(state, rank) for rank in state.ranks):
+            self.still.append(state.key)
+
+    def is_still(self, state, rank):
+        """Whether a rank is stopped, or waits for what isn't there, or would: before a WAITALL of a send and of such a thing."""
+        if not self.stays(rank, state.hub):
+            return self.rests(state, rank.number, 0)
+        step = self.turn(state, rank.number, 0)[2]
+        return step.kind == HUB and step.reply == NOT_YET
+
+    def moves_of(self, state, number):
+        rests = self.stays(state.ranks[number], state.hub)
+        for after in super().moves_of(state, number):
+            self.before[after.key].append(state.key)
+            if not rests:
+                self.patient[after.key].append(state.key)
+            yield after
+
+    def hangs(self):
+        """What is told of each state that leads to an end, but to none if each rank that rests stays there until its message was
+        received: where sends wait, no run from there ends."""
+        hanging = led_to(self.stops, self.before) - led_to(self.still, self.patient)
+        return {why.told_of_hang(self.around(self.states[key])) for key in hanging}
 
 
 def led_to(stops, before):
