@@ -41,6 +41,7 @@ rvmc_answer rvmc_claim_posted(void *buffer, long size, MPI_Message message);
 rvmc_answer rvmc_large_send_init(const void *buffer, long size, long dest, int tag, long context);
 void rvmc_large_freed(MPI_Request request);
 void rvmc_freed(MPI_Request request, int kind);
+long rvmc_let_go(MPI_Request request, int kind);
 long rvmc_large_started(MPI_Request request);
 
 /* --- errors (chapter 9) --- */
@@ -694,7 +695,8 @@ RVMC_INLINE int MPI_Startall(int count, MPI_Request *requests)
         code = rvmc_started(requests[i++]);
     return rvmc_request_code("MPI_Startall", code, i > 0 ? requests[i - 1] : MPI_REQUEST_NULL);
 }
-/* A send that is complete is freed by its test; one that isn't yet stays among the 255, and is freed with the rank. */
+/* A send that is complete is freed by its test; one that isn't yet stays among the 255, and is freed with the rank. So is what is
+   active otherwise (3.7.3, 3.9), but a collective, which may not be freed (6.12). */
 RVMC_INLINE int MPI_Request_free(MPI_Request *request)
 {
     int kind = rvmc_kind(*request);
@@ -703,8 +705,14 @@ RVMC_INLINE int MPI_Request_free(MPI_Request *request)
 
     if ((kind & (RVMC_PERSISTENT | RVMC_SENDER)) == RVMC_SENDER)
         a = rvmc_call(RVMC_TEST, was, 0, 0, 0, 0, 0);
+    else if (__builtin_expect(kind & RVMC_OWN, 0) && rvmc_own.is_open_collective(was))
+        a.code = RVMC_OPEN_COLLECTIVE;
     else
         a = rvmc_call(RVMC_REQUEST_FREE, was, 0, 0, 0, 0, 0);
+    if (__builtin_expect(a.code == RVMC_STILL_ACTIVE, 0) && !(kind & (RVMC_OWN | RVMC_PARTITIONED))) {
+        a.code = rvmc_let_go(was, kind);
+        kind = 0;
+    }
     if (!a.code) {
         if (__builtin_expect(kind & (RVMC_LARGE | RVMC_OWN), 0))
             rvmc_freed(was, kind);

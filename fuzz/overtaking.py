@@ -2,12 +2,15 @@
 """How many more outcomes there are if messages take their time: a model of the machine in which each message is on its way
 until it arrives (docs/OVERTAKING.md), over the searches of model/orders.py. Nothing of rvmc has it.
 
-usage: fuzz/overtaking.py [--seed N] [--cases N] [SOURCE]
+usage: fuzz/overtaking.py [--seed N] [--cases N] [--waits | --but KIND] [SOURCE]
 
 It takes random guests as fuzz/run draws them for `explore`, finds all outcomes of each with messages that arrive at once and
 with messages on their way, and says of how many guests there are more. An outcome is the text of an end here: ranks that are
 stuck while others run on aren't looked for. With SOURCE, an assembler source, it prints the outcomes that only messages on
 their way lead to.
+
+With --waits it takes guests whose ranks only wait for named ranks, of which none may have more, and compares ranks that are
+stuck while others run on too; the status is 1 if one has more. With --but such guests have calls of one kind besides.
 """
 
 import argparse
@@ -22,9 +25,10 @@ import guests  # noqa: E402
 import hub  # noqa: E402
 import orders  # noqa: E402
 import races  # noqa: E402
+import waits  # noqa: E402
 
-# states of a guest at most: beyond them it isn't counted
-MOST = 6_000
+# states of a guest at most: beyond them it isn't counted. Those that only wait have few that matter
+MOST, FEW = 6_000, 1_500
 
 
 class Mail(hub.Hub):
@@ -124,13 +128,39 @@ class Search(orders.Search):
         """Whether nobody goes on, and nothing is on its way."""
         return not state.hub.on_their_way() and super().is_end(state)
 
+    def company(self, state):
+        """What is told of ranks that are stuck while others run on: nothing while something is on its way, which may free them."""
+        return b"" if state.hub.on_their_way() else super().company(state)
+
+
+def searched(image, plan, most):
+    """The searches on both machines, each with its outcomes, or None where one of them was given up."""
+    plan = plan or list(range(image.harts))
+    found = []
+    for search in (orders.Search(image, plan, False, most), Search(image, plan, most)):
+        found.append((search, set(search.ends().values())))
+        if not search.is_whole:
+            return None
+    return found
+
 
 def both(image, plan):
     """The outcomes on both machines, or None where one of the searches was given up."""
-    plan = plan or list(range(image.harts))
-    searches = orders.Search(image, plan, False, MOST), Search(image, plan, MOST)
-    found = [set(search.ends().values()) for search in searches]
-    return found if all(search.is_whole for search in searches) else None
+    found = searched(image, plan, MOST)
+    return found and [ends for _, ends in found]
+
+
+def more_of(image, plan):
+    """What only messages on their way lead to: outcomes, and ranks that are stuck while others run on. None where a search was
+    given up."""
+    found = searched(image, plan, FEW)
+    if found is None:
+        return None
+    (here, ends), (there, others) = found
+    # ranks are stuck with a rank whose message is there, and which then stops
+    new = there.companies - here.companies
+    stuck = {text for text in new if not any(orders.is_earlier(text, other) for other in here.companies)}
+    return (others - ends) | stuck, (ends - others) | (here.companies - there.companies)
 
 
 def count(seed, cases):
@@ -150,12 +180,35 @@ def count(seed, cases):
     print(f"of {more} guests, if they take their time; {lost} guests lose one")
 
 
+def count_waits(seed, cases, but):
+    """Says of how many guests whose ranks only wait for named ranks there are more outcomes. Gives how many."""
+    searched_of = more = lost = 0
+    for case in range(cases):
+        image, plan = waits.Waits(guests.Guests(f"{seed} {case}"), but).drawn()
+        found = more_of(image, plan)
+        if found is None:
+            continue
+        searched_of += 1
+        more += bool(found[0])
+        lost += bool(found[1])
+        if found[0] and not but:
+            print(f"overtaking: case {case}: {sorted(found[0])[0].decode()}")
+    kind = f", but {but}" if but else ""
+    print(f"overtaking: {searched_of} of {cases} guests that only wait{kind}, searched: {more} have more")
+    print(f"outcomes if messages take their time; {lost} lose one", flush=True)
+    return more
+
+
 def main():
     parser = argparse.ArgumentParser(description=__doc__.split("\n", maxsplit=1)[0])
-    parser.add_argument("--seed", type=int, default=1)
+    parser.add_argument("--seed", default="1")
     parser.add_argument("--cases", type=int, default=200)
+    parser.add_argument("--waits", action="store_true")
+    parser.add_argument("--but", choices=waits.KINDS)
     parser.add_argument("source", nargs="?")
     given = parser.parse_args()
+    if given.waits or given.but:
+        return int(count_waits(given.seed, given.cases, given.but) > 0 and not given.but)
     if not given.source:
         count(given.seed, given.cases)
         return 0

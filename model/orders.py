@@ -5,6 +5,7 @@ import collections
 import re
 
 import cluster
+import named
 import places
 import why
 from formats import FREED, HELD, HUB, IDLE, LOCAL, MISS, PLAIN, TAKE
@@ -25,9 +26,13 @@ ROUNDS = 64
 # how many turns a rank takes by itself before a search is given up
 LONGEST = 3_000
 
+# what the last line has behind its verdict where it makes no difference how long messages take
+ON_THEIR_WAY = b", also with messages on their way"
+
 CLOSING = re.compile(
     rb"(\d+) outcomes? of (\d+) states?: "
-    rb"(no other outcome(?: with buffered sends)?|not all: \d+ states are left|not all: rank \d takes more than \d+ turns alone)\n"
+    rb"(no other outcome(?: with buffered sends)?(?:, also with messages on their way)?"
+    rb"|not all: \d+ states are left|not all: rank \d takes more than \d+ turns alone)\n"
 )
 
 UNENDING = b"some runs go on for ever\n"
@@ -36,6 +41,11 @@ UNENDING = b"some runs go on for ever\n"
 HANGING = b"some runs go on for ever if sends wait: "
 
 UNKNOWN = b"not all: whether ranks need buffers is unknown; raise --states, or use --buffered\n"
+
+UNSOUGHT = b"whether ranks need buffers wasn't checked: they have several harts\n"
+
+# lines of harts that go on
+GOING = re.compile(rb"(?:rank \d hart \d+ goes on at .*\n)*")
 
 # how many ends an outcome stands for
 LOOKING = re.compile(rb"(\d+) ends look like outcome (\d+)\n")
@@ -176,6 +186,10 @@ class Search:
         self.numbers, self.turns = {}, {}
         # how many states were found, whether these are all, and whether one of them leads to no end
         self.count, self.is_whole, self.is_unending = 0, True, False
+        # whether ranks only wait for named ranks, by the calls that they made so far
+        self.only_waits = image.harts == 1
+        # what is told of the harts that go on in such a state
+        self.going = set()
         # what is told of ranks that are stuck in states that lead to no end
         self.companies = set()
         # how many of the states that are ends have each text, with what each hart waits for
@@ -250,7 +264,8 @@ class Search:
             around = Around(self.image, copy_of_hub(state.hub), copy_of_boxes(state.boxes))
         rank = copy_of_rank(state.ranks[number], around)
         rank.must_miss = must_miss
-        step = rank.turn(hart)
+        step, only_waits = named.turn(rank, hart)
+        self.only_waits = self.only_waits and only_waits
         return rank, around, step
 
     def behind(self, state, number, must_miss=False):
@@ -332,6 +347,7 @@ class Search:
         self.count = len(before)
         led = led_to(stops, before)
         self.is_unending = self.is_whole and len(led) < len(before)
+        self.going = {why.told_of_going(self.around(state), self.plan) for key, state in states.items() if key not in led}
         self.companies = {self.company(state) for key, state in states.items() if key not in led} - {b""}
         return ends
 
@@ -624,21 +640,32 @@ class Told:
         while line := LOOKING.match(text, stop):
             self.looking[int(line[2])], stop = int(line[1]), line.end()
         at = stop if text[at:stop] == self.looking_lines() else at
+        # where harts go on that never end
+        self.going = GOING.match(text, at)[0]
+        at += len(self.going)
         self.is_unending = text[at:].startswith(UNENDING)
         at += len(UNENDING) if self.is_unending else 0
         # whether ranks that need buffers were looked for in vain, and not everywhere
         self.is_unknown = text[at:].startswith(UNKNOWN)
         at += len(UNKNOWN) if self.is_unknown else 0
+        # or not looked for, since ranks have several harts
+        self.is_unsought = text[at:].startswith(UNSOUGHT)
+        at += len(UNSOUGHT) if self.is_unsought else 0
         closing = CLOSING.fullmatch(text[at:])
-        self.is_whole = self.is_buffered = None
+        self.is_whole = self.is_buffered = self.is_on_the_way = None
         if closing and int(closing[1]) == len(self.heads):
             self.count, self.is_whole = int(closing[2]), closing[3].startswith(b"no other outcome")
+            # whether it makes no difference how long messages take
+            verdict = closing[3].removesuffix(ON_THEIR_WAY)
+            self.is_on_the_way = verdict != closing[3]
             # whether ranks may need buffers of which nothing is told
-            self.is_buffered = closing[3] != b"no other outcome"
+            self.is_buffered = verdict != b"no other outcome"
             spelled = b"%d outcome%s of %d state%s: %s\n"
             outcomes, states = (b"" if number == 1 else b"s" for number in (len(self.heads), self.count))
             if text[at:] != spelled % (len(self.heads), outcomes, self.count, states, closing[3]):
                 self.is_whole = None
+        if self.going and not self.is_unending:
+            self.is_whole = None
 
     def take_company(self, text, start):
         """Takes what is told of ranks that are stuck, or need buffers, or hang if sends wait. Returns where it ends."""
@@ -662,7 +689,7 @@ class Told:
                 at = text.index(b"\n", at) + 1
         self.bodies.append(text[start:at])
         start = at
-        while re.match(rb"rank |  from |deadlock|no deadlock", text[at:]):
+        while re.match(rb"rank (?!\d hart \d+ goes on at )|  from |deadlock|no deadlock", text[at:]):
             at = text.index(b"\n", at) + 1
         self.whys.append(text[start:at])
         return at

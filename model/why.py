@@ -297,16 +297,22 @@ def told_of_need(cluster):
     return ("".join(lines) + f"needs buffering: {named(cluster, among)}\n").encode()
 
 
-def going_line(image, rank):
-    """Where a rank goes on: in the library at the program's own call, with the function of the library."""
-    hart = rank.harts[0]
+def going_line(image, rank, number=0):
+    """Where a hart goes on: in the library at the program's own call, with the function of the library."""
+    hart = rank.harts[number]
     call = frames.own_call(image, hart, rank.memory)
     if call:
         function = places.function(image, call[1])
         at = places.name(image, call[0]) + (f", in {function}" if function else "")
     else:
         at = places.name(image, hart.pc) if places.has_line(image, hart.pc) else places.place(image, hart.pc)
-    return f"rank {rank.number} hart 0 goes on at {at}\n"
+    return f"rank {rank.number} hart {number} goes on at {at}\n"
+
+
+def told_of_going(cluster, plan):
+    """Where each hart goes on that takes turns and runs."""
+    harts = [(rank, number) for rank in cluster.ranks for number in sorted(set(plan)) if rank.harts[number].mode == RUNNING]
+    return "".join(going_line(cluster.image, *one) for one in harts).encode()
 
 
 def told_of_hang(cluster):

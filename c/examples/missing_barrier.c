@@ -9,10 +9,10 @@
 
 enum { ROUNDS = 3 };
 
-/* whether a rank has work in a round: rank 2 has none in the last one */
+/* whether a rank has work in a round: rank 0 has none in the last one */
 static int has_work(int rank, int round)
 {
-    return rank != 2 || round < ROUNDS - 1;
+    return rank != 0 || round < ROUNDS - 1;
 }
 
 int main(int argc, char **argv)

@@ -224,7 +224,7 @@ static int add(const char *call, enum object object, int handle, int key, void *
         return rvmc_full_heap(call);
     *new = (struct attribute){attributes, object, handle, key, value};
     attributes = new;
-    rvmc_at_the_end = delete_all;
+    rvmc_end_of_attributes = delete_all;
     rvmc_attributes_of_types = of_types;
     rvmc_hooks.copied_attributes = copy_of_communicator;
     rvmc_hooks.freed_attributes = delete_of_communicator;
@@ -372,6 +372,13 @@ static void free_name_of(enum object object, int handle)
         name->text[0] = 0;
 }
 
+static const char *name_of_communicator(MPI_Comm c)
+{
+    const struct name *name = name_of(COMMUNICATOR, c);
+
+    return name ? name->text : 0;
+}
+
 static void free_name(MPI_Comm c)
 {
     free_name_of(COMMUNICATOR, c);
@@ -394,6 +401,7 @@ static int set_name(const char *call, enum object object, int handle, const char
         object_names = name;
         rvmc_attributes_of_types = of_types;
         rvmc_hooks.freed_name = free_name;
+        rvmc_hooks.name = name_of_communicator;
     }
     strncpy(name->text, text, sizeof name->text - 1);
     name->text[sizeof name->text - 1] = 0;
@@ -402,7 +410,11 @@ static int set_name(const char *call, enum object object, int handle, const char
 
 int MPI_Comm_set_name(MPI_Comm c, const char *text)
 {
-    return set_name("MPI_Comm_set_name", COMMUNICATOR, c, text);
+    int error = set_name("MPI_Comm_set_name", COMMUNICATOR, c, text);
+
+    if (!error)
+        rvmc_makers[c].name = name_of(COMMUNICATOR, c)->text;
+    return error;
 }
 
 int MPI_Comm_get_name(MPI_Comm c, char *text, int *length)

@@ -28,12 +28,12 @@ enum {
     RVMC_LARGE_PROBE = RVMC_CODES, RVMC_BAD_ROOT, RVMC_BAD_OP, RVMC_OTHER_COUNT, RVMC_NO_MEMORY, RVMC_IN_PLACE,
     RVMC_PARTS_AMONG, RVMC_NOT_BEGUN, RVMC_BEGUN_TWICE, RVMC_BAD_TYPE, RVMC_ALIASED, RVMC_NOT_READY, RVMC_NO_BUFFER,
     RVMC_TWO_BUFFERS, RVMC_NO_CANCEL, RVMC_SEVERAL_HARTS, RVMC_MISMATCH,
-    RVMC_TOO_MANY, RVMC_LATER_FAILED
+    RVMC_TOO_MANY, RVMC_LATER_FAILED, RVMC_MISORDER, RVMC_OPEN_COLLECTIVE
 };
 
 /* The tags of the twin. A rank sends itself those of harts and mutexes. */
 enum {
-    RVMC_TAG_COLLECTIVE = 0,                  /* and the communicator, below 8: of collectives that wait */
+    RVMC_TAG_COLLECTIVE = 0,                  /* and the communicator, below 8: of collectives that wait, and of its end */
     RVMC_TAG_IDUP = 8,                        /* and the communicator: MPI_Comm_idup */
     RVMC_TAG_FREE = 96,                       /* a hart that has no thread */
     RVMC_TAG_HEAP = 97,                       /* the heap, which no hart is at work on */
@@ -42,6 +42,7 @@ enum {
     RVMC_TAG_AGAIN = 112,                     /* and the hart: a message that was claimed, on its way to a request */
     RVMC_TAG_MUTEX = 116,                     /* and the mutex, below 800 */
     RVMC_TAG_GROUP = 920,                     /* and 8 times the communicator and some of a tag: MPI_Comm_create_group */
+    RVMC_TAG_MEETING = 984,                   /* and the communicator: rvmc-cc --synchronizing; rvmc-mpi has it too */
     RVMC_TAG_CONTEXT = 1000,                  /* a hart may make a communicator */
     RVMC_TAG_REST = 1024,                     /* and the number of a large message: its pieces behind the first */
     RVMC_TAG_LATER = 29056,                   /* and 448 times the communicator and a number: collectives that don't wait */
@@ -88,6 +89,10 @@ RVMC_INLINE rvmc_answer rvmc_call(long number, long x0, long x1, long x2, long x
 extern char rvmc_harts[], rvmc_stack[], rvmc_communicators[], rvmc_stacks[], rvmc_memory[];
 /* What --check has of each stack for itself, and what a stack has beside that where there is memory enough. */
 extern char rvmc_spare_stack[], rvmc_usual_stack[];
+/* 2 with --synchronizing, where each collective waits for all of its members; else 1. */
+extern char rvmc_meetings[];
+/* With --check 2, or 1 where what is found is only told; else 0. */
+extern char rvmc_check_traps[];
 #define RVMC_NUMBER(symbol) ((long)(symbol))
 /* The machine's communicator in which the library talks, of all ranks. start.S has it too. */
 #define RVMC_TWIN 1

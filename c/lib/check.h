@@ -118,7 +118,7 @@ RVMC_CHECKED_ALL(Reduce_scatter_block, Ireduce_scatter_block, Reduce_scatter_blo
 #endif
 
 /* What a program makes and has to free: the call, and the place of the handle. */
-enum { RVMC_IS_COMMUNICATOR, RVMC_IS_DATATYPE, RVMC_IS_OPERATION };
+enum { RVMC_IS_COMMUNICATOR, RVMC_IS_DATATYPE, RVMC_IS_OPERATION, RVMC_IS_GROUP };
 void rvmc_check_made(const char *call, int kind, int code, const int *handle);
 void rvmc_check_freed(int kind, int handle);
 #define RVMC_CHECKED_MAKER(name, kind, parameters, arguments) \
@@ -185,6 +185,19 @@ RVMC_CHECKED_FREE(Type_free, RVMC_IS_DATATYPE, MPI_Datatype)
 RVMC_CHECKED_MAKER(Op_create, RVMC_IS_OPERATION, (MPI_User_function *function, int commutes, MPI_Op *made),
                    (function, commutes, made))
 RVMC_CHECKED_FREE(Op_free, RVMC_IS_OPERATION, MPI_Op)
+
+#define RVMC_CHECKED_GROUP(name, parameters, arguments) RVMC_CHECKED_MAKER(name, RVMC_IS_GROUP, parameters, arguments)
+RVMC_CHECKED_GROUP(Comm_group, (MPI_Comm c, MPI_Group *made), (c, made))
+RVMC_CHECKED_GROUP(Group_union, (MPI_Group group, MPI_Group other, MPI_Group *made), (group, other, made))
+RVMC_CHECKED_GROUP(Group_intersection, (MPI_Group group, MPI_Group other, MPI_Group *made), (group, other, made))
+RVMC_CHECKED_GROUP(Group_difference, (MPI_Group group, MPI_Group other, MPI_Group *made), (group, other, made))
+RVMC_CHECKED_GROUP(Group_incl, (MPI_Group group, int count, const int ranks[], MPI_Group *made), (group, count, ranks, made))
+RVMC_CHECKED_GROUP(Group_excl, (MPI_Group group, int count, const int ranks[], MPI_Group *made), (group, count, ranks, made))
+RVMC_CHECKED_GROUP(Group_range_incl, (MPI_Group group, int count, int ranges[][3], MPI_Group *made),
+                   (group, count, ranges, made))
+RVMC_CHECKED_GROUP(Group_range_excl, (MPI_Group group, int count, int ranges[][3], MPI_Group *made),
+                   (group, count, ranges, made))
+RVMC_CHECKED_FREE(Group_free, RVMC_IS_GROUP, MPI_Group)
 
 #ifdef RVMC_CHECK
 #define MPI_Init rvmc_checked_Init
@@ -324,6 +337,15 @@ RVMC_CHECKED_FREE(Op_free, RVMC_IS_OPERATION, MPI_Op)
 #define MPI_Type_free rvmc_checked_Type_free
 #define MPI_Op_create rvmc_checked_Op_create
 #define MPI_Op_free rvmc_checked_Op_free
+#define MPI_Comm_group rvmc_checked_Comm_group
+#define MPI_Group_union rvmc_checked_Group_union
+#define MPI_Group_intersection rvmc_checked_Group_intersection
+#define MPI_Group_difference rvmc_checked_Group_difference
+#define MPI_Group_incl rvmc_checked_Group_incl
+#define MPI_Group_excl rvmc_checked_Group_excl
+#define MPI_Group_range_incl rvmc_checked_Group_range_incl
+#define MPI_Group_range_excl rvmc_checked_Group_range_excl
+#define MPI_Group_free rvmc_checked_Group_free
 #endif
 
 #endif

@@ -56,19 +56,29 @@ int rvmc_checked_Init_thread(int *argc, char ***argv, int required, int *provide
     return code;
 }
 
-/* A barrier by the name of MPI_Finalize: a rank that is in another collective meanwhile is told. */
-static void meet_all(unsigned behind)
+/* What MPI_Finalize does first, before all ranks meet. */
+static void end_early(void)
 {
-    struct group g = rvmc_group_at("MPI_Finalize", MPI_COMM_WORLD, (const void *)(unsigned long)behind);
-
-    for (int step = 1; step < g.size && !g.code; step *= 2) {
-        give_word(&g, (g.me + step) % g.size);
-        take_word(&g, (g.me - step + g.size) % g.size);
-    }
-    finish(&g);
+    if (rvmc_at_the_end)
+        rvmc_at_the_end();
+    rvmc_at_the_end = 0;
 }
 
-/* All that a rank has left behind is told before it traps. After the barrier each message that was sent is there. */
+/* All ranks meet by the name of MPI_Finalize: one that is in another collective meanwhile is told. Returns whether this rank has
+   received all that was sent to it, which is there by then. */
+static int meet_all(unsigned behind)
+{
+    struct group g = rvmc_group_at("MPI_Finalize", MPI_COMM_WORLD, (const void *)(unsigned long)behind);
+    int all;
+
+    rvmc_order_stops(&g);
+    all = rvmc_all_received(&g);
+    finish(&g);
+    return all;
+}
+
+/* All that a rank has left behind is told before it traps. What it hasn't freed is told once all ranks have come here: where one of
+   them waits for ever, that matters more. */
 int rvmc_checked_Finalize(void)
 {
     unsigned behind = RVMC_BEHIND;
@@ -76,12 +86,12 @@ int rvmc_checked_Finalize(void)
     rvmc_check_begin("MPI_Finalize", behind);
     if (!rvmc_idle()) {
         rvmc_requests_at_the_end(behind);
-        rvmc_handles_at_the_end(behind);
         rvmc_heap_at_the_end(behind);
         if (!rvmc_told)
-            meet_all(behind);
-        if (!rvmc_told)
+            end_early();
+        if (!rvmc_told && !meet_all(behind) && !rvmc_told)
             rvmc_messages_at_the_end(behind);
+        rvmc_handles_at_the_end(behind);
     }
     if (rvmc_told)
         return MPI_SUCCESS;

@@ -1,5 +1,5 @@
-/* check_handles.c: communicators, datatypes and operations that a program makes, and doesn't free; and communicators that it
-   uses when they are freed. */
+/* check_handles.c: communicators, datatypes, operations and groups that a program makes, and doesn't free; and communicators that
+   it uses when they are freed. */
 #include "checked.h"
 
 struct handle {
@@ -10,7 +10,7 @@ struct handle {
 };
 static struct handle *handles;
 
-static const char *const kinds[] = {"communicator", "datatype", "operation"};
+static const char *const kinds[] = {"communicator", "datatype", "operation", "group"};
 
 static struct handle *handle_of(int kind, int handle)
 {
@@ -21,15 +21,25 @@ static struct handle *handle_of(int kind, int handle)
     return found;
 }
 
+/* Equal groups have one handle, however often one is made: that which was made last and isn't freed. */
+static struct handle *open_group(int handle)
+{
+    struct handle *found = handles;
+
+    while (found && (found->kind != RVMC_IS_GROUP || found->handle != handle || found->freed))
+        found = found->next;
+    return found;
+}
+
 /* The program has made a handle, where there is no error. One that was freed may be given again. */
 void rvmc_check_made(const char *call, int kind, int code, const int *handle)
 {
     struct handle *made;
 
-    if (code || (kind == RVMC_IS_COMMUNICATOR && *handle == MPI_COMM_NULL))
+    if (code || (kind == RVMC_IS_COMMUNICATOR && *handle == MPI_COMM_NULL) || (kind == RVMC_IS_GROUP && *handle == MPI_GROUP_EMPTY))
         return;
     rvmc_check_lock();
-    made = handle_of(kind, *handle);
+    made = kind == RVMC_IS_GROUP ? 0 : handle_of(kind, *handle);
     if (!made) {
         made = rvmc_check_take(sizeof *made);
         if (made)
@@ -50,7 +60,7 @@ void rvmc_check_made(const char *call, int kind, int code, const int *handle)
 /* The program frees a handle. */
 void rvmc_check_freed(int kind, int handle)
 {
-    struct handle *made = handle_of(kind, handle);
+    struct handle *made = kind == RVMC_IS_GROUP ? open_group(handle) : handle_of(kind, handle);
 
     if (made)
         made->freed = RVMC_BEHIND;

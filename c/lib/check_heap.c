@@ -157,7 +157,7 @@ void rvmc_heap_check(const char *who, unsigned behind, unsigned at, unsigned siz
 
     if (b && at - b->at + size <= b->size && !b->is_freed) {
         if (is_element && !is_written && is_fresh(at, size))
-            RVMC_TELL(behind, b->given, "%s reads memory that was never written, of the %d bytes of %s",
+            RVMC_WARN(behind, b->given, "%s reads memory that was never written, of the %d bytes of %s",
                       who ? who : rvmc_check_line(behind), (long)b->size, giver_of(b));
         if (is_element)
             rvmc_check_know_block(b->at, b->size);
@@ -176,7 +176,7 @@ void rvmc_heap_check(const char *who, unsigned behind, unsigned at, unsigned siz
         tell_block(b, who, behind, does, at < b->at ? "before the start of" : "past the end of");
 }
 
-/* Data to be sent of which nobody has written any. */
+/* Data to be sent of which nobody has written any. A correct program may send such, so it isn't a trap. */
 void rvmc_heap_check_written(const char *who, unsigned behind, unsigned at, unsigned size)
 {
     int n = up_to(at);
@@ -187,7 +187,7 @@ void rvmc_heap_check_written(const char *who, unsigned behind, unsigned at, unsi
     for (unsigned i = 0; i + 4 <= size; i += 4)
         if (!is_fresh(at + i, 4))
             return;
-    RVMC_TELL(behind, b->given, "%s reads memory that was never written, of the %d bytes of %s", who, (long)b->size,
+    RVMC_WARN(behind, b->given, "%s reads memory that was never written, of the %d bytes of %s", who, (long)b->size,
               giver_of(b));
 }
 

@@ -2,6 +2,7 @@
    the call that sent it. So a receive can tell what was sent where, also if it has no room for all of it. */
 #include <string.h>
 #include "checked.h"
+#include "group.h"
 #include "layouts.h"
 
 static const char *const senders[] = {
@@ -43,12 +44,19 @@ struct packet {
     MPI_Datatype type;
 };
 
+/* How many messages this rank has sent to each rank of MPI_COMM_WORLD, and received of each. */
+enum { MOST_RANKS = 8 };
+static int sent[MOST_RANKS], received[MOST_RANKS];
+
 void rvmc_write_letter(const struct rvmc_record *r)
 {
-    long elements = rvmc_type_elements(r->type, r->count);
+    long elements = rvmc_type_elements(r->type, r->count), there = rvmc_there(r->communicator, r->peer);
     struct rvmc_letter head = {RVMC_LETTER_MARK, rvmc_type_hash(r->type, r->count, elements), (unsigned)elements,
-                             (unsigned)r->size, r->behind, (unsigned)number_of(r->call), (unsigned)r->type, (unsigned)r->count};
+                             (unsigned)r->size, r->behind, (unsigned char)number_of(r->call), (unsigned char)rvmc_rank, 0,
+                             (unsigned)r->type, (unsigned)r->count};
 
+    if (there >= 0 && there < MOST_RANKS)
+        sent[there]++;
     memcpy(r->room, &head, RVMC_LETTER);
     rvmc_type_pack(r->room + RVMC_LETTER, r->buffer, r->count, r->type);
 }
@@ -57,7 +65,8 @@ static struct packet packet_of(const char *call, unsigned behind, const void *bu
                                MPI_Comm c)
 {
     struct packet plain = {0, buffer, count, type};
-    struct rvmc_record r = {.call = call, .behind = behind, .buffer = (void *)buffer, .count = count, .type = type};
+    struct rvmc_record r = {.call = call, .behind = behind, .peer = dest, .communicator = c, .buffer = (void *)buffer,
+                            .count = count, .type = type};
 
     rvmc_check_communicator(call, behind, c);
     if (!rvmc_has_letter(buffer, count, type, dest))
@@ -240,6 +249,7 @@ long rvmc_delivered(unsigned behind, const struct rvmc_record *r, MPI_Status *st
         rvmc_type_unpack(r->buffer, r->room, got, r->count, r->type);
         return code;
     }
+    received[head.sender % MOST_RANKS]++;
     rvmc_without_head(status);
     rvmc_type_unpack(r->buffer, r->room + RVMC_LETTER, got - RVMC_LETTER, r->count, r->type);
     if (code == RVMC_TRUNCATED && !errors_return(r->communicator)) {
@@ -291,6 +301,7 @@ int rvmc_checked_Recv(void *buffer, int count, MPI_Datatype type, int source, in
     long code;
 
     rvmc_check_begin("MPI_Recv", RVMC_BEHIND);
+    source = rvmc_source_of(source);
     r = receive_of("MPI_Recv", RVMC_BEHIND, buffer, count, type, source, tag, c);
     if (!r.room)
         return rvmc_check_end(MPI_Recv(buffer, count, type, source, tag, c, status));
@@ -317,6 +328,7 @@ int rvmc_checked_Irecv(void *buffer, int count, MPI_Datatype type, int source, i
     int code = MPI_SUCCESS;
 
     rvmc_check_begin("MPI_Irecv", RVMC_BEHIND);
+    source = rvmc_source_of(source);
     rvmc_variable_lost("MPI_Irecv", RVMC_BEHIND, request);
     r = receive_of("MPI_Irecv", RVMC_BEHIND, buffer, count, type, source, tag, c);
     if (!rvmc_told && !r.room)
@@ -358,6 +370,7 @@ int rvmc_checked_Sendrecv(const void *out, int out_count, MPI_Datatype out_type,
     long code;
 
     rvmc_check_begin(call, RVMC_BEHIND);
+    source = rvmc_source_of(source);
     p = packet_of(call, RVMC_BEHIND, out, out_count, out_type, dest, c);
     r = receive_of(call, RVMC_BEHIND, in, in_count, in_type, source, in_tag, c);
     rvmc_check_apart(call, RVMC_BEHIND, out, out_count, out_type, in, in_count, in_type);
@@ -383,6 +396,7 @@ int rvmc_checked_Sendrecv_replace(void *buffer, int count, MPI_Datatype type, in
     long code;
 
     rvmc_check_begin(call, RVMC_BEHIND);
+    source = rvmc_source_of(source);
     p = packet_of(call, RVMC_BEHIND, buffer, count, type, dest, c);
     r = receive_of(call, RVMC_BEHIND, buffer, count, type, source, in_tag, c);
     if (rvmc_told)
@@ -417,6 +431,7 @@ int rvmc_checked_Isendrecv(const void *out, int out_count, MPI_Datatype out_type
     long code;
 
     rvmc_check_begin(call, RVMC_BEHIND);
+    source = rvmc_source_of(source);
     rvmc_variable_lost(call, RVMC_BEHIND, request);
     p = packet_of(call, RVMC_BEHIND, out, out_count, out_type, dest, c);
     r = receive_of(call, RVMC_BEHIND, in, in_count, in_type, source, in_tag, c);
@@ -444,6 +459,7 @@ int rvmc_checked_Isendrecv_replace(void *buffer, int count, MPI_Datatype type, i
     long code;
 
     rvmc_check_begin(call, RVMC_BEHIND);
+    source = rvmc_source_of(source);
     rvmc_variable_lost(call, RVMC_BEHIND, request);
     p = packet_of(call, RVMC_BEHIND, buffer, count, type, dest, c);
     r = receive_of(call, RVMC_BEHIND, buffer, count, type, source, in_tag, c);
@@ -468,6 +484,7 @@ int rvmc_checked_Probe(int source, int tag, MPI_Comm c, MPI_Status *status)
     int code;
 
     rvmc_check_begin("MPI_Probe", RVMC_BEHIND);
+    source = rvmc_source_of(source);
     rvmc_check_communicator("MPI_Probe", RVMC_BEHIND, c);
     code = MPI_Probe(source, tag, c, &own);
     if (!code && source != MPI_PROC_NULL)
@@ -483,6 +500,7 @@ int rvmc_checked_Iprobe(int source, int tag, MPI_Comm c, int *flag, MPI_Status *
     int code;
 
     rvmc_check_begin("MPI_Iprobe", RVMC_BEHIND);
+    source = rvmc_source_of(source);
     rvmc_check_communicator("MPI_Iprobe", RVMC_BEHIND, c);
     code = MPI_Iprobe(source, tag, c, flag, &own);
     if (!code && *flag && source != MPI_PROC_NULL)
@@ -498,6 +516,7 @@ int rvmc_checked_Mprobe(int source, int tag, MPI_Comm c, MPI_Message *message, M
     int code;
 
     rvmc_check_begin("MPI_Mprobe", RVMC_BEHIND);
+    source = rvmc_source_of(source);
     rvmc_check_communicator("MPI_Mprobe", RVMC_BEHIND, c);
     code = MPI_Mprobe(source, tag, c, message, &own);
     if (!code && source != MPI_PROC_NULL)
@@ -513,6 +532,7 @@ int rvmc_checked_Improbe(int source, int tag, MPI_Comm c, int *flag, MPI_Message
     int code;
 
     rvmc_check_begin("MPI_Improbe", RVMC_BEHIND);
+    source = rvmc_source_of(source);
     rvmc_check_communicator("MPI_Improbe", RVMC_BEHIND, c);
     code = MPI_Improbe(source, tag, c, flag, message, &own);
     if (!code && *flag && source != MPI_PROC_NULL)
@@ -589,6 +609,27 @@ static void look_for_messages(unsigned behind, MPI_Comm c)
                       (long)status.MPI_SOURCE,
                       rvmc_check_call(senders[head.call % (sizeof senders / sizeof *senders)], head.behind));
     }
+}
+
+/* Nobody polls for what isn't there: each rank tells each other one how many messages it has sent it, and whoever has received
+   as many looks for none. So a search of all schedules has no states of this. A rank that has left without MPI_Finalize tells no
+   number, and counts as one with a message more. */
+int rvmc_all_received(struct group *g)
+{
+    int all = sent[g->me] == received[g->me];
+
+    for (int r = 0; r < g->size; r++)
+        if (r != g->me)
+            give(g, &sent[r], 1, MPI_INT, r);
+    for (int r = 0; r < g->size; r++) {
+        int count = -1;
+
+        if (r == g->me)
+            continue;
+        take(g, &count, 1, MPI_INT, r);
+        all &= count == received[r];
+    }
+    return all;
 }
 
 void rvmc_messages_at_the_end(unsigned behind)

@@ -14,6 +14,7 @@ static struct rvmc_record *lasting(const char *call, unsigned behind, const void
     r->buffer = (void *)buffer;
     r->count = count;
     r->type = type;
+    r->peer = peer;
     r->communicator = c;
     if (rvmc_has_letter(buffer, count, type, peer)) {
         r->size = count * rvmc_type_seen(type).size;
@@ -40,6 +41,8 @@ static void open_lasting(struct rvmc_record *r, MPI_Request *request, MPI_Reques
         int code, has_room; \
         \
         rvmc_check_begin("MPI_" #name, RVMC_BEHIND); \
+        if ((kind) & RVMC_IS_RECEIVE) \
+            peer = rvmc_source_of(peer); \
         rvmc_check_communicator("MPI_" #name, RVMC_BEHIND, c); \
         rvmc_variable_lost("MPI_" #name, RVMC_BEHIND, request); \
         r = lasting("MPI_" #name, RVMC_BEHIND, buffer, count, type, peer, c, kind); \
@@ -86,6 +89,8 @@ static const char *partition_at(const struct rvmc_record *r, int partition)
         int code; \
         \
         rvmc_check_begin("MPI_" #name, RVMC_BEHIND); \
+        if ((kind) & RVMC_IS_RECEIVE) \
+            peer = rvmc_source_of(peer); \
         rvmc_check_communicator("MPI_" #name, RVMC_BEHIND, c); \
         rvmc_variable_lost("MPI_" #name, RVMC_BEHIND, request); \
         r = lasting("MPI_" #name, RVMC_BEHIND, buffer, (int)count, type, MPI_PROC_NULL, c, kind); \

@@ -152,6 +152,7 @@ static int ask(const char *call, unsigned behind, long number, MPI_Request *requ
     code = rvmc_asked(number, &raw, flag, &own);
     if (!*flag)
         return rvmc_request_code(call, code, raw);
+    rvmc_show_source(&own);
     if (status)
         *status = own;
     if (!record) {
@@ -236,6 +237,7 @@ int rvmc_checked_Testall(int count, MPI_Request requests[], int *flag, MPI_Statu
     for (int i = 0; *flag && i < count; i++) {
         struct rvmc_record *record = rvmc_record_of(requests[i]);
 
+        rvmc_show_source(own + i);
         if (record)
             rvmc_record_completed("MPI_Testall", behind, record, requests + i, statuses ? statuses + i : 0, own + i, RVMC_OK);
         else
@@ -260,7 +262,7 @@ static int is_active(MPI_Request request)
 static void empty_status(MPI_Status *status)
 {
     if (status)
-        *status = (MPI_Status){MPI_ANY_SOURCE, -1, MPI_ANY_TAG, -1, 0, MPI_SUCCESS};
+        *status = (MPI_Status){RVMC_CHECKED_ANY_SOURCE, -1, MPI_ANY_TAG, -1, 0, MPI_SUCCESS};
 }
 
 /* One look at each active request: the first that is complete, or MPI_UNDEFINED. */
@@ -355,6 +357,15 @@ int rvmc_checked_Request_free(MPI_Request *request)
     int code;
 
     rvmc_check_begin("MPI_Request_free", RVMC_BEHIND);
+    if (record && (record->kind & RVMC_IS_ACTIVE) && (record->kind & RVMC_IS_RECEIVE)) {
+        int flag;
+
+        RVMC_WARN(RVMC_BEHIND, record->behind, "%s: the receive of %s is active, and nothing says when its buffer may be read",
+                  rvmc_check_call("MPI_Request_free", RVMC_BEHIND), rvmc_check_call(record->call, record->behind));
+        code = ask("MPI_Request_free", RVMC_BEHIND, RVMC_TEST, request, &flag, 0);
+        if (code || *request == MPI_REQUEST_NULL)
+            return rvmc_check_end(code);
+    }
     code = MPI_Request_free(&raw);
     if (!code) {
         if (record)
@@ -383,8 +394,10 @@ int rvmc_checked_Request_get_status(MPI_Request request, int *flag, MPI_Status *
             rvmc_delivered(RVMC_BEHIND, record, &own, RVMC_OK);
         record->kind |= RVMC_IS_DELIVERED;
     }
-    if (!code && *flag && status)
+    if (!code && *flag && status) {
+        rvmc_show_source(&own);
         *status = own;
+    }
     return rvmc_check_end(code);
 }
 

@@ -7,6 +7,7 @@
 #include <stddef.h>
 #include "../mpi.h"
 #include "check.h"
+#include "errors.h"
 #include "places.h"
 #include "say.h"
 #include "system.h"
@@ -20,7 +21,6 @@
 /* --- telling (check.c) --- */
 
 extern _Thread_local int rvmc_told;
-extern char rvmc_check_traps[];                   /* 2, or 1 where what is found is only told */
 
 /* Whether something is to be told of a place, and not for the second time; by a call, and by another place that matters. */
 int rvmc_check_is_new(unsigned behind, unsigned other);
@@ -31,6 +31,13 @@ void rvmc_check_trap(void);
             rvmc_say(__VA_ARGS__); \
             rvmc_check_trap(); \
         } \
+    } while (0)
+
+/* The same for what may be right: the run goes on. */
+#define RVMC_WARN(behind, other, format, ...) \
+    do { \
+        if (rvmc_check_is_new(behind, other)) \
+            rvmc_say("warning: " format, __VA_ARGS__); \
     } while (0)
 
 /* The line of a call, as ring.c:12; and a call with its line, as MPI_Send at ring.c:12. The last eight texts stay. */
@@ -142,7 +149,10 @@ void rvmc_requests_at_the_end(unsigned behind);
 
 /* What stands before the data of each message. */
 struct rvmc_letter {
-    unsigned mark, hash, elements, bytes, behind, call, type, count;
+    unsigned mark, hash, elements, bytes, behind;
+    unsigned char call, sender;                   /* which of the calls that send; the rank in MPI_COMM_WORLD */
+    unsigned short unused;
+    unsigned type, count;
 };
 enum { RVMC_LETTER = sizeof(struct rvmc_letter), RVMC_LETTER_MARK = 0x4d454843 };
 int rvmc_has_letter(const void *buffer, int count, MPI_Datatype type, int peer);
@@ -150,7 +160,23 @@ void rvmc_write_letter(const struct rvmc_record *r);
 void rvmc_lend_room(int bytes);
 long rvmc_delivered(unsigned behind, const struct rvmc_record *r, MPI_Status *status, long code);
 void rvmc_without_head(MPI_Status *status);
+struct group;
+int rvmc_all_received(struct group *g);
 void rvmc_messages_at_the_end(unsigned behind);
+
+/* The source that the program names, as the machine has it; and the other way round, in a status. A source of -1 is none: the
+   machine refuses it under another number, and errors.c tells -1. */
+RVMC_INLINE int rvmc_source_of(int source)
+{
+    if (source == RVMC_CHECKED_ANY_SOURCE)
+        return MPI_ANY_SOURCE;
+    return source == MPI_ANY_SOURCE ? RVMC_NO_SOURCE : source;
+}
+RVMC_INLINE void rvmc_show_source(MPI_Status *status)
+{
+    if (status->MPI_SOURCE == MPI_ANY_SOURCE)
+        status->MPI_SOURCE = RVMC_CHECKED_ANY_SOURCE;
+}
 
 /* --- the environment (check_environment.c) --- */
 

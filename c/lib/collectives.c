@@ -8,7 +8,7 @@
 struct group rvmc_group_at(const char *call, MPI_Comm c, const void *place)
 {
     struct group g = {.call = call, .place = place, .communicator = c, .of = rvmc_known(c), .tag = RVMC_TAG_COLLECTIVE + c,
-                      .size = 1, .root = -1, .count = -1};
+                      .size = 1, .root = -1, .uncounted = 1, .count = -1};
 
     if (rvmc_idle()) {
         g.code = RVMC_NOT_BEGUN;
@@ -150,7 +150,7 @@ int MPI_Bcast(void *buffer, int count, MPI_Datatype type, int root, MPI_Comm c)
 {
     RVMC_IF_DERIVED(type, type, rvmc_derived_Bcast(buffer, count, type, root, c));
 
-    struct group g = rvmc_rooted("MPI_Bcast", c, root);
+    struct group g = rvmc_rooted(rvmc_name_Bcast, c, root);
     struct parts p = {buffer, count, type, 0, 0, 0, {"buffer", "count", "datatype", 0}};
 
     check(&g, &p, 0);
@@ -180,7 +180,7 @@ int MPI_Gather(const void *out, int out_count, MPI_Datatype out_type, void *in, 
 {
     RVMC_IF_DERIVED(out_type, in_type, rvmc_derived_Gather(out, out_count, out_type, in, in_count, in_type, root, c));
 
-    struct group g = rvmc_rooted("MPI_Gather", c, root);
+    struct group g = rvmc_rooted(rvmc_name_Gather, c, root);
     struct parts from = out_parts(out, out_count, out_type), to = in_parts(in, in_count, in_type);
 
     gather(&g, &from, &to, root);
@@ -192,7 +192,7 @@ int MPI_Gatherv(const void *out, int out_count, MPI_Datatype out_type, void *in,
 {
     RVMC_IF_DERIVED(out_type, in_type, rvmc_derived_Gatherv(out, out_count, out_type, in, in_counts, places, in_type, root, c));
 
-    struct group g = rvmc_rooted("MPI_Gatherv", c, root);
+    struct group g = rvmc_rooted(rvmc_name_Gatherv, c, root);
     struct parts from = out_parts(out, out_count, out_type), to = in_parts(in, 0, in_type);
 
     to.counts = in_counts;
@@ -223,7 +223,7 @@ int MPI_Scatter(const void *out, int out_count, MPI_Datatype out_type, void *in,
 {
     RVMC_IF_DERIVED(out_type, in_type, rvmc_derived_Scatter(out, out_count, out_type, in, in_count, in_type, root, c));
 
-    struct group g = rvmc_rooted("MPI_Scatter", c, root);
+    struct group g = rvmc_rooted(rvmc_name_Scatter, c, root);
     struct parts from = out_parts(out, out_count, out_type), to = in_parts(in, in_count, in_type);
 
     scatter(&g, &from, &to, root);
@@ -235,7 +235,7 @@ int MPI_Scatterv(const void *out, const int out_counts[], const int places[], MP
 {
     RVMC_IF_DERIVED(out_type, in_type, rvmc_derived_Scatterv(out, out_counts, places, out_type, in, in_count, in_type, root, c));
 
-    struct group g = rvmc_rooted("MPI_Scatterv", c, root);
+    struct group g = rvmc_rooted(rvmc_name_Scatterv, c, root);
     struct parts from = out_parts(out, 0, out_type), to = in_parts(in, in_count, in_type);
 
     from.counts = out_counts;
@@ -262,7 +262,7 @@ int MPI_Allgather(const void *out, int out_count, MPI_Datatype out_type, void *i
 {
     RVMC_IF_DERIVED(out_type, in_type, rvmc_derived_Allgather(out, out_count, out_type, in, in_count, in_type, c));
 
-    struct group g = rvmc_group("MPI_Allgather", c);
+    struct group g = rvmc_group(rvmc_name_Allgather, c);
     struct parts from = out_parts(out, out_count, out_type), to = in_parts(in, in_count, in_type);
 
     gather_all(&g, &from, &to);
@@ -274,7 +274,7 @@ int MPI_Allgatherv(const void *out, int out_count, MPI_Datatype out_type, void *
 {
     RVMC_IF_DERIVED(out_type, in_type, rvmc_derived_Allgatherv(out, out_count, out_type, in, in_counts, places, in_type, c));
 
-    struct group g = rvmc_group("MPI_Allgatherv", c);
+    struct group g = rvmc_group(rvmc_name_Allgatherv, c);
     struct parts from = out_parts(out, out_count, out_type), to = in_parts(in, 0, in_type);
 
     to.counts = in_counts;
@@ -312,7 +312,7 @@ int MPI_Alltoall(const void *out, int out_count, MPI_Datatype out_type, void *in
 {
     RVMC_IF_DERIVED(out_type, in_type, rvmc_derived_Alltoall(out, out_count, out_type, in, in_count, in_type, c));
 
-    struct group g = rvmc_group("MPI_Alltoall", c);
+    struct group g = rvmc_group(rvmc_name_Alltoall, c);
     struct parts from = out_parts(out, out_count, out_type), to = in_parts(in, in_count, in_type);
 
     exchange(&g, &from, &to);
@@ -324,7 +324,7 @@ int MPI_Alltoallv(const void *out, const int out_counts[], const int out_places[
 {
     RVMC_IF_DERIVED(out_type, in_type, rvmc_derived_Alltoallv(out, out_counts, out_places, out_type, in, in_counts, in_places, in_type, c));
 
-    struct group g = rvmc_group("MPI_Alltoallv", c);
+    struct group g = rvmc_group(rvmc_name_Alltoallv, c);
     struct parts from = out_parts(out, 0, out_type), to = in_parts(in, 0, in_type);
 
     from.counts = out_counts;
@@ -338,7 +338,7 @@ int MPI_Alltoallv(const void *out, const int out_counts[], const int out_places[
 int MPI_Alltoallw(const void *out, const int out_counts[], const int out_places[], const MPI_Datatype out_types[], void *in,
                   const int in_counts[], const int in_places[], const MPI_Datatype in_types[], MPI_Comm c)
 {
-    struct group g = rvmc_group("MPI_Alltoallw", c);
+    struct group g = rvmc_group(rvmc_name_Alltoallw, c);
     struct parts from = out_parts(out, 0, 0), to = in_parts(in, 0, 0);
 
     from.counts = out_counts;

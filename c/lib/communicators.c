@@ -6,6 +6,7 @@
 enum { CONTEXTS = 0xfc };                         /* 2 to 7 */
 
 struct rvmc_communicator rvmc_table[RVMC_COMMUNICATORS];
+struct rvmc_maker rvmc_makers[RVMC_COMMUNICATORS];
 unsigned char rvmc_contexts = CONTEXTS;
 const char rvmc_no_context[] =
     "6 communicators beside MPI_COMM_WORLD are in use at one time, and no more are served: MPI_Comm_free";

@@ -23,6 +23,14 @@ struct rvmc_communicator {
 };
 extern struct rvmc_communicator rvmc_table[RVMC_COMMUNICATORS];
 
+/* By what a reader knows a communicator: behind the call that made it, that call's name, and the text of MPI_Comm_set_name.
+   rvmc-mpi reads it in records. */
+struct rvmc_maker {
+    unsigned place, call;
+    const char *name;
+};
+extern struct rvmc_maker rvmc_makers[RVMC_COMMUNICATORS];
+
 /* What c is: null where it is no communicator, or has been freed, or this rank is no member. */
 const struct rvmc_communicator *rvmc_known(MPI_Comm c);
 long rvmc_context_of(MPI_Comm c);

@@ -34,7 +34,13 @@ typedef int MPI_Type_delete_attr_function(MPI_Datatype type, int key, void *valu
 #define MPI_COMM_NULL (-1)
 #define MPI_GROUP_NULL 0
 #define MPI_GROUP_EMPTY (1 << 28)
+/* With --check it is another number than that of the machine: then a rank that was computed as -1 isn't taken for it. */
+#define RVMC_CHECKED_ANY_SOURCE (-1001)
+#ifdef RVMC_CHECK
+#define MPI_ANY_SOURCE RVMC_CHECKED_ANY_SOURCE
+#else
 #define MPI_ANY_SOURCE (-1)
+#endif
 #define MPI_ANY_TAG (-1)
 #define MPI_PROC_NULL (-2)
 #define MPI_ROOT (-3)

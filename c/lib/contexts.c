@@ -128,7 +128,9 @@ RVMC_INLINE int make(struct group *g, MPI_Group members, struct choice choice, M
     if (context < 0)
         return mine ? rvmc_trapped(rvmc_raise(g->call, g->communicator, MPI_ERR_OTHER, 0, rvmc_no_context)) : MPI_SUCCESS;
     *made = context;
+    rvmc_makers[context] = (struct rvmc_maker){(unsigned)(long)g->place, (unsigned)(long)g->call, 0};
     inherit(g->communicator, context);
+    rvmc_order_begins(context, g);
     return MPI_SUCCESS;
 }
 
@@ -243,50 +245,8 @@ int MPI_Comm_create_group(MPI_Comm c, MPI_Group group, int tag, MPI_Comm *made)
     g.me = members.me;
     g.size = members.size;
     g.tag = RVMC_TAG_GROUP + 8 * c + (tag & 7);
+    out_of_count(&g);
     return create(&g, group, made);
-}
-
-/* What a copy has beside its ranks. */
-static int copied(MPI_Comm c, int error, MPI_Comm *made)
-{
-    if (!error && rvmc_hooks.copied_topology)
-        error = rvmc_hooks.copied_topology(c, *made);
-    if (!error && rvmc_hooks.copied_attributes)
-        error = rvmc_hooks.copied_attributes(c, *made);
-    if (error && *made != MPI_COMM_NULL)
-        MPI_Comm_free(made);
-    return error;
-}
-
-int MPI_Comm_dup(MPI_Comm c, MPI_Comm *made)
-{
-    struct group g = rvmc_group("MPI_Comm_dup", c);
-
-    return copied(c, create(&g, g.of ? rvmc_group_of(g.of) : MPI_GROUP_EMPTY, made), made);
-}
-
-int rvmc_make_copy(struct group *g, int free, MPI_Comm *made)
-{
-    return copied(g->communicator, make(g, rvmc_group_of(g->of), (struct choice){~0u, free}, made), made);
-}
-
-int MPI_Comm_dup_with_info(MPI_Comm c, MPI_Info info, MPI_Comm *made)
-{
-    int error = MPI_Comm_dup(c, made);
-
-    return error ? error : MPI_Comm_set_info(*made, info);
-}
-
-int MPI_Comm_compare(MPI_Comm c, MPI_Comm other, int *result)
-{
-    const struct rvmc_communicator *of = rvmc_known(c), *to = rvmc_known(other);
-
-    if (rvmc_idle() || !of || !to)
-        return rvmc_comm_code("MPI_Comm_compare", rvmc_idle() ? RVMC_NOT_BEGUN : RVMC_BAD_COMM, of ? other : c);
-    *result = c == other ? MPI_IDENT : rvmc_group_like(rvmc_group_of(of), rvmc_group_of(to));
-    if (c != other && *result == MPI_IDENT)
-        *result = MPI_CONGRUENT;
-    return MPI_SUCCESS;
 }
 
 /* The context stays in use up to the end of the last receive that was posted in it (7.4.3). */
@@ -306,7 +266,60 @@ static void release(MPI_Comm c)
     rvmc_closed(c);
 }
 
-static int free_one(const char *call, MPI_Comm *c)
+/* What a copy has beside its ranks. */
+static int copied(MPI_Comm c, int error, MPI_Comm *made)
+{
+    if (!error && rvmc_hooks.copied_topology)
+        error = rvmc_hooks.copied_topology(c, *made);
+    if (!error && rvmc_hooks.copied_attributes)
+        error = rvmc_hooks.copied_attributes(c, *made);
+    if (error && *made != MPI_COMM_NULL) {
+        if (rvmc_hooks.freed_attributes)
+            rvmc_hooks.freed_attributes(*made);
+        release(*made);
+        *made = MPI_COMM_NULL;
+    }
+    return error;
+}
+
+static int copy(struct group *g, MPI_Comm *made)
+{
+    return copied(g->communicator, create(g, g->of ? rvmc_group_of(g->of) : MPI_GROUP_EMPTY, made), made);
+}
+
+int MPI_Comm_dup(MPI_Comm c, MPI_Comm *made)
+{
+    struct group g = rvmc_group("MPI_Comm_dup", c);
+
+    return copy(&g, made);
+}
+
+int rvmc_make_copy(struct group *g, int free, MPI_Comm *made)
+{
+    return copied(g->communicator, make(g, rvmc_group_of(g->of), (struct choice){~0u, free}, made), made);
+}
+
+int MPI_Comm_dup_with_info(MPI_Comm c, MPI_Info info, MPI_Comm *made)
+{
+    struct group g = rvmc_group("MPI_Comm_dup_with_info", c);
+    int error = copy(&g, made);
+
+    return error ? error : MPI_Comm_set_info(*made, info);
+}
+
+int MPI_Comm_compare(MPI_Comm c, MPI_Comm other, int *result)
+{
+    const struct rvmc_communicator *of = rvmc_known(c), *to = rvmc_known(other);
+
+    if (rvmc_idle() || !of || !to)
+        return rvmc_comm_code("MPI_Comm_compare", rvmc_idle() ? RVMC_NOT_BEGUN : RVMC_BAD_COMM, of ? other : c);
+    *result = c == other ? MPI_IDENT : rvmc_group_like(rvmc_group_of(of), rvmc_group_of(to));
+    if (c != other && *result == MPI_IDENT)
+        *result = MPI_CONGRUENT;
+    return MPI_SUCCESS;
+}
+
+RVMC_INLINE int free_one(const char *call, MPI_Comm *c, const void *place)
 {
     int error = rvmc_comm_code(call, rvmc_idle() ? RVMC_NOT_BEGUN : rvmc_known(*c) ? RVMC_OK : RVMC_BAD_COMM, *c);
 
@@ -315,19 +328,20 @@ static int free_one(const char *call, MPI_Comm *c)
                                         *c == MPI_COMM_WORLD ? "MPI_COMM_WORLD" : "MPI_COMM_SELF"));
     if (!error && rvmc_hooks.freed_attributes)
         error = rvmc_hooks.freed_attributes(*c);
-    if (!error) {
-        release(*c);
-        *c = MPI_COMM_NULL;
-    }
+    if (error)
+        return error;
+    error = rvmc_order_ends(call, *c, place);
+    release(*c);
+    *c = MPI_COMM_NULL;
     return error;
 }
 
 int MPI_Comm_free(MPI_Comm *c)
 {
-    return free_one("MPI_Comm_free", c);
+    return free_one("MPI_Comm_free", c, __builtin_return_address(0));
 }
 
 int MPI_Comm_disconnect(MPI_Comm *c)
 {
-    return free_one("MPI_Comm_disconnect", c);
+    return free_one("MPI_Comm_disconnect", c, __builtin_return_address(0));
 }

@@ -44,6 +44,7 @@ extern struct rvmc_hooks {
     int (*copied_attributes)(MPI_Comm from, MPI_Comm to);
     int (*freed_attributes)(MPI_Comm c);
     void (*freed_name)(MPI_Comm c);
+    const char *(*name)(MPI_Comm c);
     void (*freed_info)(MPI_Comm c);
     void (*used_handler)(MPI_Errhandler handler, int change);
     int (*copied_topology)(MPI_Comm from, MPI_Comm to);

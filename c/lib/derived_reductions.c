@@ -100,7 +100,7 @@ static void reduce(struct folding *f, const void *mine, void *to, long count, in
 
 int rvmc_derived_Reduce(const void *from, void *to, int count, MPI_Datatype type, MPI_Op op, int root, MPI_Comm c)
 {
-    struct group g = rvmc_rooted("MPI_Reduce", c, root);
+    struct group g = rvmc_rooted(rvmc_name_Reduce, c, root);
     struct folding f;
     int error = begin(&f, &g, count, type, op);
 
@@ -112,7 +112,7 @@ int rvmc_derived_Reduce(const void *from, void *to, int count, MPI_Datatype type
 
 int rvmc_derived_Allreduce(const void *from, void *to, int count, MPI_Datatype type, MPI_Op op, MPI_Comm c)
 {
-    struct group g = rvmc_group("MPI_Allreduce", c);
+    struct group g = rvmc_group(rvmc_name_Allreduce, c);
     struct folding f;
     int error = begin(&f, &g, count, type, op);
 
@@ -161,14 +161,14 @@ static int reduce_parts(struct group *g, const void *from, char *to, const int *
 
 int rvmc_derived_Reduce_scatter(const void *from, void *to, const int counts[], MPI_Datatype type, MPI_Op op, MPI_Comm c)
 {
-    struct group g = rvmc_group("MPI_Reduce_scatter", c);
+    struct group g = rvmc_group(rvmc_name_Reduce_scatter, c);
 
     return reduce_parts(&g, from, to, counts, 0, type, op);
 }
 
 int rvmc_derived_Reduce_scatter_block(const void *from, void *to, int count, MPI_Datatype type, MPI_Op op, MPI_Comm c)
 {
-    struct group g = rvmc_group("MPI_Reduce_scatter_block", c);
+    struct group g = rvmc_group(rvmc_name_Reduce_scatter_block, c);
 
     return reduce_parts(&g, from, to, 0, count, type, op);
 }
@@ -191,14 +191,14 @@ static int scan(struct group *g, const void *from, void *to, int count, MPI_Data
 
 int rvmc_derived_Scan(const void *from, void *to, int count, MPI_Datatype type, MPI_Op op, MPI_Comm c)
 {
-    struct group g = rvmc_group("MPI_Scan", c);
+    struct group g = rvmc_group(rvmc_name_Scan, c);
 
     return scan(&g, from, to, count, type, op, 0);
 }
 
 int rvmc_derived_Exscan(const void *from, void *to, int count, MPI_Datatype type, MPI_Op op, MPI_Comm c)
 {
-    struct group g = rvmc_group("MPI_Exscan", c);
+    struct group g = rvmc_group(rvmc_name_Exscan, c);
 
     return scan(&g, from, to, count, type, op, 1);
 }

@@ -204,7 +204,7 @@ int rvmc_wrong(const char *call, long code, const void *buffer, long count, MPI_
         return rvmc_wrong_comm(call, code, c);
     case RVMC_BAD_RANK:
         return rvmc_raise(call, c, MPI_ERR_RANK, of & RVMC_SOURCE ? "source" : "dest",
-                          "rank %d, but the communicator has %d", (long)peer, size_of(c));
+                          "rank %d, but the communicator has %d", peer == RVMC_NO_SOURCE ? MPI_ANY_SOURCE : (long)peer, size_of(c));
     case RVMC_BAD_TAG:
         return rvmc_raise(call, c, MPI_ERR_TAG, argument(of, "sendtag", "recvtag", "tag"),
                           "tag %d, but tags are 0 to %d", (long)tag, (long)RVMC_MOST_TAG);
@@ -241,6 +241,8 @@ int rvmc_wrong_request(const char *call, long code, MPI_Request request)
         return rvmc_later_error;
     case RVMC_STILL_ACTIVE:
         return rvmc_raise(call, c, MPI_ERR_REQUEST, "request", "the request is active");
+    case RVMC_OPEN_COLLECTIVE:
+        return rvmc_raise(call, c, MPI_ERR_REQUEST, "request", "the request of a collective may not be freed before it is complete");
     case RVMC_NOT_ACTIVE:
         return rvmc_raise(call, c, MPI_ERR_REQUEST, "request", "the request isn't started");
     case RVMC_ALREADY_READY:
@@ -303,6 +305,8 @@ int rvmc_wrong_collective(const struct group *g)
         return rvmc_raise(call, c, MPI_ERR_BUFFER, g->argument, "both buffers are at %x: MPI_IN_PLACE says that", g->value);
     case RVMC_MISMATCH:
         return rvmc_wrong_mismatch(g);
+    case RVMC_MISORDER:
+        return rvmc_wrong_order(g);
     case RVMC_OTHER_COUNT:
         return rvmc_raise(call, c, MPI_ERR_TRUNCATE, g->argument, "rank %d gave another count, where %d bytes are expected",
                           g->value, g->expected);

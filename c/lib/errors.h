@@ -14,6 +14,9 @@ int rvmc_handled(MPI_Comm c, int error);
    rvmc_say. */
 int rvmc_raise(const char *call, MPI_Comm c, int error, const char *argument, const char *format, ...);
 
+/* What --check gives the machine for a source of -1. */
+#define RVMC_NO_SOURCE (-2147483647)
+
 extern int rvmc_later_error;
 
 /* No memory: in the heap, or in a table of so many things. */

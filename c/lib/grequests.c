@@ -120,7 +120,7 @@ static int cancelled(MPI_Request request, int *error)
 int MPI_Grequest_start(MPI_Grequest_query_function *query, MPI_Grequest_free_function *free_it,
                        MPI_Grequest_cancel_function *cancel, void *state, MPI_Request *request)
 {
-    static const struct rvmc_owner owner = {asked, started, inner, freed};
+    static const struct rvmc_owner owner = {asked, started, inner, freed, 0};
     rvmc_answer a = {RVMC_NOT_BEGUN, 0};
     struct general *g = malloc(sizeof *g);
 

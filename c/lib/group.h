@@ -24,6 +24,8 @@ struct group {
     long value, expected;
     int root;                                     /* -1: the call has none */
     MPI_Op op;
+    int uncounted;                                /* the call belongs to the order, and isn't counted yet */
+    struct rvmc_point point;                      /* where in the order it stands, once it is counted */
     unsigned given, taken;                        /* bit r: the rank at place r has had a message of the call, or sent one */
     int whole;                                    /* the signature is that of the call, and not of each message */
     long count;
@@ -32,6 +34,16 @@ struct group {
     struct rvmc_head mine;
 };
 
+/* The names of calls that are compiled twice, each at one address, by which it's known (orders.h). */
+#define RVMC_NAMES(name) \
+    name(Bcast) name(Gather) name(Gatherv) name(Scatter) name(Scatterv) name(Allgather) name(Allgatherv) name(Alltoall) \
+    name(Alltoallv) name(Alltoallw) name(Reduce) name(Allreduce) name(Reduce_scatter) name(Reduce_scatter_block) name(Scan) \
+    name(Exscan) name(Neighbor_allgather) name(Neighbor_allgatherv) name(Neighbor_alltoall) name(Neighbor_alltoallv) \
+    name(Neighbor_alltoallw)
+#define RVMC_NAME(name) extern const char rvmc_name_##name[];
+RVMC_NAMES(RVMC_NAME)
+#undef RVMC_NAME
+
 int rvmc_wrong_collective(const struct group *g);
 int rvmc_wrong_mismatch(const struct group *g);
 struct group rvmc_group_at(const char *call, MPI_Comm c, const void *place);
@@ -39,17 +51,26 @@ struct group rvmc_rooted_at(const char *call, MPI_Comm c, int root, const void *
 #define rvmc_group(call, c) rvmc_group_at(call, c, __builtin_return_address(0))
 #define rvmc_rooted(call, c, root) rvmc_rooted_at(call, c, root, __builtin_return_address(0))
 
+/* The call isn't of all ranks of the communicator, or of no other rank. */
+RVMC_INLINE void out_of_count(struct group *g)
+{
+    g->uncounted = 0;
+}
+
 /* All messages of the call carry the signature of so many elements, of which each message has a part. */
 void rvmc_whole(struct group *g, long count, MPI_Datatype type);
 
 const char *rvmc_headed(struct group *g, const void *buffer, long count, MPI_Datatype type, long size);
+void rvmc_hears(struct group *g, const void *buffer, long size);
 void rvmc_heard(struct group *g, void *buffer, long count, MPI_Datatype type, long size, int from, long bytes);
 
-RVMC_INLINE int finish(const struct group *g)
+RVMC_INLINE int finish(struct group *g)
 {
-    if (__builtin_expect(g->code == RVMC_OK, 1))
-        return MPI_SUCCESS;
-    return rvmc_trapped(rvmc_wrong_collective(g));
+    if (__builtin_expect(g->code != RVMC_OK, 0))
+        return rvmc_trapped(rvmc_wrong_collective(g));
+    if (g->uncounted)
+        rvmc_count(g);
+    return MPI_SUCCESS;
 }
 
 RVMC_INLINE void fault(struct group *g, long code, const char *argument, long value, long expected)
@@ -141,6 +162,8 @@ RVMC_INLINE void take_bytes(struct group *g, void *buffer, long size, long count
     long at = 0;
     MPI_Status status;
 
+    if (g->uncounted && !g->code)
+        rvmc_hears(g, buffer, size);
     if (!g->code && !(g->taken >> from & 1)) {
         g->code = rvmc_call(RVMC_RECV, (long)head_room(buffer), RVMC_PIECE, rvmc_rank_at(g->of, from), g->tag, RVMC_TWIN,
                             (long)&status).code;

@@ -158,7 +158,7 @@ static long asked(long number, MPI_Request *request, int *flag, MPI_Status *stat
 static int begin(struct group *g, MPI_Comm *made, MPI_Info info, int (*set_info)(MPI_Comm c, MPI_Info info),
                  MPI_Request *request)
 {
-    static const struct rvmc_owner owner = {asked, started, inner, freed};
+    static const struct rvmc_owner owner = {asked, started, inner, freed, 1};
     struct copy *copy = g->code ? 0 : malloc(sizeof *copy), **end = &open;
     int offered;
     rvmc_answer a = {g->code ? g->code : copy ? RVMC_OK : RVMC_NO_MEMORY, 0};

@@ -55,7 +55,7 @@ function stuck_anyway(number, n, i, k, line, word) {
     traps = 1
     trapper = $2
 }
-/ hart [0-9]+ (waits|goes on) at / { waits[number] = waits[number] $0 "\n" }
+/ hart [0-9]+ waits at / { waits[number] = waits[number] $0 "\n" }
 /^deadlock: / { dead = 1 }
 /^needs buffering: / { needs = 1 }
 # it has no line for ranks that have ended: one of them may have called MPI_Abort
@@ -65,7 +65,12 @@ function stuck_anyway(number, n, i, k, line, word) {
 }
 / unreceived: / { lost = 1 }
 /^some runs go on for ever$/ { endless = 1 }
-/^[0-9]+ outcomes? of [0-9]+ states?: / { last = $0; sub(/^[^:]*: /, "", last) }
+/^[0-9]+ outcomes? of [0-9]+ states?: / {
+    last = $0
+    sub(/^[^:]*: /, "", last)
+    # so it is on a network too, where messages take their time
+    on_way = sub(/, also with messages on their way$/, "", last)
+}
 END {
     finish()
     for (i = 1; i <= number; i++) {
@@ -80,5 +85,6 @@ END {
         else print "outcome", i, "stuck", substr(rest[i], 1, 3), stuck
     }
     if (endless) print "endless"
+    if (on_way) print "way"
     print "last " last
 }

@@ -31,6 +31,39 @@ char *rvmc_side_place(const struct side *s, int i)
     return (char *)s->buffer + (s->types ? place : place * extent_of(s->type));
 }
 
+/* --- the members of one that waits for all of them (rvmc-cc --synchronizing) --- */
+
+static int has_arrived(const struct group *g, int r)
+{
+    return rvmc_call(RVMC_IPROBE, rvmc_rank_at(g->of, r), g->tag, RVMC_TWIN, 0, 0, 0).value != 0;
+}
+
+/* Says to each other member that this rank has begun: a message in front of those of the collective. */
+static void tell_members(struct later *l)
+{
+    const struct group *g = &l->g;
+
+    l->heard = 0;
+    for (int r = 0; r < g->size && !g->code; r++)
+        if (r != g->me)
+            rvmc_call(RVMC_SEND, 0, 0, rvmc_rank_at(g->of, r), g->tag, RVMC_TWIN, RVMC_IS_BUFFERED);
+}
+
+/* Whether all have begun, for whom it waits or not. rvmc-mpi knows a hart that waits here by the name. */
+static __attribute__((noinline)) int members_have_begun(struct later *l, int wait)
+{
+    const struct group *g = &l->g;
+
+    for (; l->heard < g->size && !g->code; l->heard++) {
+        if (l->heard == g->me)
+            continue;
+        if (!wait && !has_arrived(g, l->heard))
+            return 0;
+        rvmc_call(RVMC_RECV, 0, 0, rvmc_rank_at(g->of, l->heard), g->tag, RVMC_TWIN, 0);
+    }
+    return 1;
+}
+
 /* --- the start --- */
 
 static void start(struct later *l)
@@ -39,6 +72,8 @@ static void start(struct later *l)
 
     g->given = g->taken = 0;
     l->next = 0;
+    if (RVMC_NUMBER(rvmc_meetings) > 1)
+        tell_members(l);
     for (int r = 0; r < g->size && !g->code; r++)
         if (l->to & bit(r))
             give(g, rvmc_side_place(&l->out, r), side_count(&l->out, r), side_type(&l->out, r), r);
@@ -100,17 +135,14 @@ static void fold_next(struct later *l, int r)
     l->last = before;
 }
 
-static int has_arrived(const struct group *g, int r)
-{
-    return rvmc_call(RVMC_IPROBE, rvmc_rank_at(g->of, r), g->tag, RVMC_TWIN, 0, 0, 0).value != 0;
-}
-
 /* Goes on, waiting or as far as messages have arrived. Returns whether all is done. */
 static int go_on(struct later *l, int wait)
 {
     struct group *g = &l->g;
     unsigned wanted = l->from | l->folded;
 
+    if (RVMC_NUMBER(rvmc_meetings) > 1 && !members_have_begun(l, wait))
+        return 0;
     for (; l->next < l->neighbors.in && !g->code; l->next++) {
         int i = l->next, r = l->neighbors.sources[i];
 
@@ -213,6 +245,7 @@ static long started(MPI_Request request)
 
     start(l);
     if (!l->g.code) {
+        rvmc_order_starts(l->g.communicator, l->number);
         rvmc_kinds[request] |= RVMC_ACTIVE;
         return RVMC_OK;
     }
@@ -225,7 +258,7 @@ static long started(MPI_Request request)
 /* Makes the request: its number is that of one of the machine's that never starts. */
 static struct later *made(struct later *given, int kind, int number, MPI_Request *request)
 {
-    static const struct rvmc_owner owner = {asked, started, inner, freed};
+    static const struct rvmc_owner owner = {asked, started, inner, freed, 1};
     struct group *g = &given->g;
     struct later *l = g->code ? 0 : malloc(sizeof *l);
     rvmc_answer a = {g->code ? g->code : l ? RVMC_OK : RVMC_NO_MEMORY, 0};
@@ -246,6 +279,7 @@ static struct later *made(struct later *given, int kind, int number, MPI_Request
     use_types(l, 1);
     rvmc_opened(g->communicator);
     rvmc_own_request(*request, &owner, l);
+    rvmc_count(&l->g);
     return l;
 }
 
@@ -271,6 +305,10 @@ int rvmc_later_init(struct later *given, MPI_Request *request)
 {
     struct rvmc_communicator *of = given->g.code ? 0 : rvmc_table + given->g.communicator;
     int number = PASSING + (of ? of->lasting++ % LASTING : 0);
+    struct later *l = made(given, RVMC_PERSISTENT, number, request);
 
-    return made(given, RVMC_PERSISTENT, number, request) ? MPI_SUCCESS : finish(&given->g);
+    if (!l)
+        return finish(&given->g);
+    rvmc_order_lasts(&l->g, number);
+    return MPI_SUCCESS;
 }

@@ -24,6 +24,7 @@ struct later {
     struct side out, in;
     unsigned to, from;                            /* bit r: this rank sends to the one at place r, or receives from it */
     int own;                                      /* what this rank has for itself is copied at the start */
+    int heard;                                    /* with --synchronizing: the place up to which others are known to have begun */
     int next;                                     /* the place from which it receives next, or which of its neighbors */
     struct rvmc_neighbors neighbors;              /* of neighborhood collectives, which have no bits above */
     /* of reductions: which ranks' data are folded, and by what */

@@ -10,6 +10,7 @@ extern struct rvmc_own {
     long (*started)(MPI_Request request);
     MPI_Request (*inner)(MPI_Request request);
     void (*freed)(MPI_Request request);
+    int (*is_open_collective)(MPI_Request request);
 } rvmc_own;
 enum {
     RVMC_BSEND = 64, RVMC_RSEND, RVMC_IBSEND, RVMC_IRSEND, RVMC_OWN_SEND, RVMC_SSEND_INIT, RVMC_BSEND_INIT, RVMC_RSEND_INIT
@@ -31,6 +32,7 @@ extern struct rvmc_derived {
     long (*extent)(MPI_Datatype type);
     long (*bytes)(MPI_Datatype type);
 } rvmc_derived;
-extern void (*rvmc_at_the_end)(void);
+/* What MPI_Finalize does first: what attributes want, or where a program has collectives that and more (lib/ends.c). */
+extern void (*rvmc_at_the_end)(void), (*rvmc_end_of_attributes)(void);
 
 #endif

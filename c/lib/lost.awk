@@ -29,7 +29,7 @@ function put(i, c, k, many, where, seen, word) {
     }
     if (many && c != 1) {
         split(row[i], word, " ")
-        print never(word[2], many, word[1], word[3]) (c > 1 ? " in communicator " c : "") (where == "" ? "" : " (sent at " where ")")
+        print never(word[2], many, word[1], word[3]) in_communicator(word[1], c) (where == "" ? "" : " (sent at " where ")")
     }
     return many
 }

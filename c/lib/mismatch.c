@@ -1,4 +1,4 @@
-/* mismatch.c: tells that ranks are in different collectives, or in one with other roots, operations or data. */
+/* mismatch.c: the heads of collectives' messages, and what is told of ranks that are in one collective with other data. */
 #include <string.h>
 #include "../mpi.h"
 #include "errors.h"
@@ -77,9 +77,7 @@ static struct rvmc_head head_of(struct group *g, long count, MPI_Datatype type, 
 
     if (g->whole)
         size = g->count * RVMC_SIZE_OF(g->type);
-    return (struct rvmc_head){(unsigned)(long)g->call, (unsigned)(long)g->place, hash, (int)size, (int)g->count,
-                              (signed char)g->root, (unsigned char)(g->op < RVMC_OWN_OPS ? g->op : RVMC_OWN_OPS),
-                              (unsigned char)(g->type >> 16), 0};
+    return (struct rvmc_head){g->point, hash, (int)size, (int)g->count, (unsigned)g->type};
 }
 
 static int is_outside(const char *buffer, long size)
@@ -98,32 +96,33 @@ const char *rvmc_headed(struct group *g, const void *buffer, long count, MPI_Dat
         fault(g, RVMC_BAD_BUFFER, "sendbuf", (long)buffer, size);
         return message;
     }
+    if (g->uncounted)
+        rvmc_count(g);
     *(struct rvmc_head *)message = head_of(g, count, type, size);
     memcpy(message + RVMC_HEAD, buffer, (size_t)headed(size));
     return message;
 }
 
-/* A call for basic datatypes and the same for others may have a copy of its name each. */
-static int __attribute__((noinline, cold)) is_other_name(const char *theirs, const char *mine)
-{
-    for (; *theirs == *mine; theirs++, mine++)
-        if (!*mine)
-            return 0;
-    return 1;
-}
-
-/* Whether the head of another rank is that of the same call, with the same root, operation and data. */
+/* Whether the data of another rank's call are those of this rank's. */
 static int differs(const struct rvmc_head *mine, const struct rvmc_head *theirs)
 {
-    if (theirs->call != mine->call && is_other_name((const char *)(long)theirs->call, (const char *)(long)mine->call))
-        return MPI_ERR_OTHER;
-    if (theirs->root != mine->root)
-        return MPI_ERR_ROOT;
-    if (theirs->op != mine->op)
-        return MPI_ERR_OP;
     if (theirs->bytes != mine->bytes)
         return MPI_ERR_TRUNCATE;
     return theirs->signature != mine->signature && theirs->signature && mine->signature ? MPI_ERR_TYPE : MPI_SUCCESS;
+}
+
+static int is_bad(const void *buffer, long size)
+{
+    return size && ((const char *)buffer < rvmc_stacks || is_outside(buffer, size));
+}
+
+/* A call is counted before it waits, so that the order of a rank that waits for ever has it too. */
+void rvmc_hears(struct group *g, const void *buffer, long size)
+{
+    if (is_bad(buffer, size))
+        fault(g, RVMC_BAD_BUFFER, "recvbuf", (long)buffer, size);
+    else
+        rvmc_count(g);
 }
 
 void rvmc_heard(struct group *g, void *buffer, long count, MPI_Datatype type, long size, int from, long bytes)
@@ -132,14 +131,15 @@ void rvmc_heard(struct group *g, void *buffer, long count, MPI_Datatype type, lo
     const struct rvmc_head *theirs = (const struct rvmc_head *)message;
     struct rvmc_head mine;
 
-    if (size && ((char *)buffer < rvmc_stacks || is_outside(buffer, size))) {
+    if (is_bad(buffer, size)) {
         fault(g, RVMC_BAD_BUFFER, "recvbuf", (long)buffer, size);
         return;
     }
+    if ((bytes < RVMC_HEAD || theirs->point.digest != g->point.digest || theirs->point.number != g->point.number) &&
+        !rvmc_out_of_order(g, message, rvmc_rank_at(g->of, from), bytes))
+        return;
     mine = head_of(g, count, type, size);
-    if (bytes < RVMC_HEAD || (long)theirs->call >= (long)rvmc_stacks) {
-        fault(g, RVMC_OTHER_COUNT, 0, from, size);
-    } else if (differs(&mine, theirs)) {
+    if (differs(&mine, theirs)) {
         fault(g, RVMC_MISMATCH, message, rvmc_rank_at(g->of, from), size);
         g->mine = mine;
     } else {
@@ -149,19 +149,14 @@ void rvmc_heard(struct group *g, void *buffer, long count, MPI_Datatype type, lo
 
 /* --- what is told --- */
 
-/* What a rank is in: the call, what of it differs, and where it stands. */
-static void put_call(const struct rvmc_head *head, int error)
+/* What a rank is in: the call, its data, and where it stands. */
+static void put_call(const struct rvmc_head *head)
 {
-    const struct rvmc_place *place = rvmc_place_of((const void *)(unsigned long)head->place);
-    MPI_Datatype type = head->type & RVMC_MADE_SIGN ? 0 : head->type << 16;
+    struct rvmc_step step = head->point.step;
+    const struct rvmc_place *place = rvmc_place_of((const void *)(unsigned long)step.place);
+    MPI_Datatype type = (MPI_Datatype)head->type;
 
-    rvmc_put("%s", (const char *)(unsigned long)head->call);
-    if (error == MPI_ERR_ROOT)
-        rvmc_put(" with root %d", (long)head->root);
-    else if (error == MPI_ERR_OP)
-        rvmc_put(" with %s", head->op < RVMC_OWN_OPS ? rvmc_op_name(head->op) : "an operation of its own");
-    else if (error != MPI_ERR_OTHER)
-        rvmc_put(" of %d %s", (long)head->count, type ? rvmc_type_name(type) : "of a derived datatype");
+    rvmc_put("%s of %d %s", rvmc_called(step), (long)head->count, RVMC_SIZE_OF(type) ? rvmc_type_name(type) : "of a derived datatype");
     if (place)
         rvmc_put(" (%s:%d)", rvmc_file_of(place), (long)place->line);
 }
@@ -169,16 +164,16 @@ static void put_call(const struct rvmc_head *head, int error)
 int rvmc_wrong_mismatch(const struct group *g)
 {
     const struct rvmc_head *theirs = (const struct rvmc_head *)g->argument, *heads[2] = {&g->mine, theirs};
-    int error = differs(&g->mine, theirs), answer = rvmc_handled(g->communicator, error), first = g->value < rvmc_rank;
+    int answer = rvmc_handled(g->communicator, differs(&g->mine, theirs)), first = g->value < rvmc_rank;
     long ranks[2] = {rvmc_rank, g->value};
 
     if (answer)
         return answer;
     rvmc_begin_line();
     rvmc_put("collective mismatch: rank %d in ", ranks[first]);
-    put_call(heads[first], error);
+    put_call(heads[first]);
     rvmc_put(", rank %d in ", ranks[!first]);
-    put_call(heads[!first], error);
+    put_call(heads[!first]);
     rvmc_put("\n");
     return 0;
 }

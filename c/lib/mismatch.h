@@ -1,15 +1,16 @@
 /* mismatch.h: the head of a collective's messages. The first message from a rank to another in each call says what call the
-   rank is in, so that one in another call is told (docs/C.md, Collectives that don't match). */
+   rank is in and what data it has, so that one in another call, or with other data, is told (docs/C.md, Collectives that don't
+   match). */
 #ifndef RVMC_MISMATCH_H
 #define RVMC_MISMATCH_H
 
-/* All ranks have the same text, so addresses say the same everywhere: of the call's name, and behind the call. */
+#include "orders.h"
+
 struct rvmc_head {
-    unsigned call, place;
+    struct rvmc_point point;
     unsigned signature;
     int bytes, count;
-    signed char root;                             /* -1: the call has none */
-    unsigned char op, type, unused;               /* 0: none; an operation of the program's own is RVMC_OWN_OPS */
+    unsigned type;
 };
 enum { RVMC_HEAD = sizeof(struct rvmc_head), RVMC_HEADED = RVMC_PIECE - RVMC_HEAD };
 

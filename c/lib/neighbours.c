@@ -85,7 +85,7 @@ int MPI_Neighbor_allgather(const void *out, int out_count, MPI_Datatype out_type
 
     struct side from = {out, 1, out_count, out_type, 0, 0, 0, 0, OUT}, to = {in, 0, in_count, in_type, 0, 0, 0, 0, IN};
 
-    return talk("MPI_Neighbor_allgather", &from, &to, c);
+    return talk(rvmc_name_Neighbor_allgather, &from, &to, c);
 }
 
 int MPI_Neighbor_allgatherv(const void *out, int out_count, MPI_Datatype out_type, void *in, const int in_counts[],
@@ -95,7 +95,7 @@ int MPI_Neighbor_allgatherv(const void *out, int out_count, MPI_Datatype out_typ
 
     struct side from = {out, 1, out_count, out_type, 0, 0, 0, 0, OUT}, to = {in, 0, 0, in_type, in_counts, places, 0, 0, IN};
 
-    return talk("MPI_Neighbor_allgatherv", &from, &to, c);
+    return talk(rvmc_name_Neighbor_allgatherv, &from, &to, c);
 }
 
 int MPI_Neighbor_alltoall(const void *out, int out_count, MPI_Datatype out_type, void *in, int in_count,
@@ -105,7 +105,7 @@ int MPI_Neighbor_alltoall(const void *out, int out_count, MPI_Datatype out_type,
 
     struct side from = {out, 0, out_count, out_type, 0, 0, 0, 0, OUT}, to = {in, 0, in_count, in_type, 0, 0, 0, 0, IN};
 
-    return talk("MPI_Neighbor_alltoall", &from, &to, c);
+    return talk(rvmc_name_Neighbor_alltoall, &from, &to, c);
 }
 
 int MPI_Neighbor_alltoallv(const void *out, const int out_counts[], const int out_places[], MPI_Datatype out_type, void *in,
@@ -116,7 +116,7 @@ int MPI_Neighbor_alltoallv(const void *out, const int out_counts[], const int ou
     struct side from = {out, 0, 0, out_type, out_counts, out_places, 0, 0, OUT};
     struct side to = {in, 0, 0, in_type, in_counts, in_places, 0, 0, IN};
 
-    return talk("MPI_Neighbor_alltoallv", &from, &to, c);
+    return talk(rvmc_name_Neighbor_alltoallv, &from, &to, c);
 }
 
 int MPI_Neighbor_alltoallw(const void *out, const int out_counts[], const MPI_Aint out_places[],
@@ -126,5 +126,5 @@ int MPI_Neighbor_alltoallw(const void *out, const int out_counts[], const MPI_Ai
     struct side from = {out, 0, 0, 0, out_counts, 0, out_places, out_types, OUT};
     struct side to = {in, 0, 0, 0, in_counts, 0, in_places, in_types, IN};
 
-    return talk("MPI_Neighbor_alltoallw", &from, &to, c);
+    return talk(rvmc_name_Neighbor_alltoallw, &from, &to, c);
 }

@@ -85,7 +85,7 @@ static void freed(void *thing)
 /* The arguments are checked by the machine's own request, of the first bytes. */
 long rvmc_own_init(int mode, const void *buffer, long size, int dest, int tag, MPI_Comm c, MPI_Request *request)
 {
-    static const struct rvmc_owner owner = {asked, started, inner, freed};
+    static const struct rvmc_owner owner = {asked, started, inner, freed, 0};
     rvmc_answer a = {RVMC_NOT_BEGUN, 0};
     struct sender *s = malloc(sizeof *s);
 

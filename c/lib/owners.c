@@ -54,9 +54,16 @@ static void freed(MPI_Request request)
     owners[request]->freed(things[request]);
 }
 
+static int is_open_collective(MPI_Request request)
+{
+    int kind = rvmc_kinds[request];
+
+    return owners[request]->is_collective && !(kind & RVMC_KEPT) && (!(kind & RVMC_PERSISTENT) || (kind & RVMC_ACTIVE));
+}
+
 static void begin(void)
 {
-    rvmc_own = (struct rvmc_own){asked, started, inner, freed};
+    rvmc_own = (struct rvmc_own){asked, started, inner, freed, is_open_collective};
 }
 
 void rvmc_own_request(MPI_Request request, const struct rvmc_owner *owner, void *thing)

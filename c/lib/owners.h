@@ -10,6 +10,7 @@ struct rvmc_owner {
     /* what the machine is asked in its place: null if it is complete, RVMC_NOT_YET if it isn't */
     MPI_Request (*inner)(MPI_Request request);
     void (*freed)(void *thing);
+    int is_collective;                            /* may not be freed before it is complete (6.12) */
 };
 
 #define RVMC_NOT_YET (-1L)

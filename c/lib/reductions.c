@@ -174,7 +174,7 @@ int MPI_Reduce(const void *from, void *to, int count, MPI_Datatype type, MPI_Op 
 {
     RVMC_IF_DERIVED(type, type, rvmc_derived_Reduce(from, to, count, type, op, root, c));
 
-    struct group g = rvmc_rooted("MPI_Reduce", c, root);
+    struct group g = rvmc_rooted(rvmc_name_Reduce, c, root);
     const void *mine = from == MPI_IN_PLACE ? to : from;
     struct folding f = folding(&g, mine, count, type, op, fold);
 
@@ -204,7 +204,7 @@ int MPI_Allreduce(const void *from, void *to, int count, MPI_Datatype type, MPI_
 {
     RVMC_IF_DERIVED(type, type, rvmc_derived_Allreduce(from, to, count, type, op, c));
 
-    struct group g = rvmc_group("MPI_Allreduce", c);
+    struct group g = rvmc_group(rvmc_name_Allreduce, c);
     const void *mine = from == MPI_IN_PLACE ? to : from;
     struct folding f = folding(&g, mine, count, type, op, fold);
 
@@ -231,7 +231,7 @@ int MPI_Reduce_scatter(const void *from, void *to, const int counts[], MPI_Datat
 {
     RVMC_IF_DERIVED(type, type, rvmc_derived_Reduce_scatter(from, to, counts, type, op, c));
 
-    struct group g = rvmc_group("MPI_Reduce_scatter", c);
+    struct group g = rvmc_group(rvmc_name_Reduce_scatter, c);
     const void *mine = from == MPI_IN_PLACE ? to : from;
     int all = 0;
     struct folding f;
@@ -255,7 +255,7 @@ int MPI_Reduce_scatter_block(const void *from, void *to, int count, MPI_Datatype
 {
     RVMC_IF_DERIVED(type, type, rvmc_derived_Reduce_scatter_block(from, to, count, type, op, c));
 
-    struct group g = rvmc_group("MPI_Reduce_scatter_block", c);
+    struct group g = rvmc_group(rvmc_name_Reduce_scatter_block, c);
     const void *mine = from == MPI_IN_PLACE ? to : from;
     struct folding f = folding(&g, mine, count, type, op, fold);
 
@@ -308,7 +308,7 @@ int MPI_Scan(const void *from, void *to, int count, MPI_Datatype type, MPI_Op op
 {
     RVMC_IF_DERIVED(type, type, rvmc_derived_Scan(from, to, count, type, op, c));
 
-    struct group g = rvmc_group("MPI_Scan", c);
+    struct group g = rvmc_group(rvmc_name_Scan, c);
     const void *mine = from == MPI_IN_PLACE ? to : from;
     struct folding f = folding(&g, mine, count, type, op, fold);
 
@@ -322,7 +322,7 @@ int MPI_Exscan(const void *from, void *to, int count, MPI_Datatype type, MPI_Op 
 {
     RVMC_IF_DERIVED(type, type, rvmc_derived_Exscan(from, to, count, type, op, c));
 
-    struct group g = rvmc_group("MPI_Exscan", c);
+    struct group g = rvmc_group(rvmc_name_Exscan, c);
     const void *mine = from == MPI_IN_PLACE ? to : from;
     struct folding f = folding(&g, mine, count, type, op, fold);
 

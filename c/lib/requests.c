@@ -9,7 +9,8 @@ struct rvmc_rest rvmc_rests[256];
 struct rvmc_own rvmc_own;
 struct rvmc_derived rvmc_derived;
 int (*rvmc_attributes_of_types)(MPI_Datatype from, MPI_Datatype to);
-void (*rvmc_at_the_end)(void);
+void (*rvmc_end_of_attributes)(void);
+extern void (*rvmc_at_the_end)(void) __attribute__((weak, alias("rvmc_end_of_attributes")));
 long rvmc_buffer_size = -1;                       /* of MPI_Buffer_attach */
 
 /* Whether the machine's own call for an array doesn't do: it takes 255 plain requests at most. */
@@ -30,6 +31,24 @@ void rvmc_freed(MPI_Request request, int kind)
         rvmc_own.freed(request);
     else if ((kind & (RVMC_SENDER | RVMC_PERSISTENT)) == (RVMC_SENDER | RVMC_PERSISTENT))
         rvmc_large_freed(request);
+}
+
+/* A request that the program frees while it is active: what it sends still arrives. If it isn't complete it stays among the 255,
+   and what is received for it doesn't come to its buffer any more. */
+long rvmc_let_go(MPI_Request request, int kind)
+{
+    MPI_Request left = request;
+    int flag;
+    long code = rvmc_asked(RVMC_TEST, &left, &flag, 0);
+
+    if (code || !flag || !(kind & RVMC_PERSISTENT))
+        return code;
+    code = rvmc_call(RVMC_REQUEST_FREE, request, 0, 0, 0, 0, 0).code;
+    if (!code && (kind & RVMC_LARGE))
+        rvmc_freed(request, kind);
+    if (!code && (kind & RVMC_ELSEWHERE))
+        rvmc_closed(rvmc_rests[request].communicator);
+    return code;
 }
 
 void rvmc_all_completed(int count, MPI_Request *requests, MPI_Status *statuses)

@@ -180,6 +180,7 @@ int MPI_Cart_map(MPI_Comm c, int dimensions, const int dims[], const int periods
     if (!g.code && size < 0)
         return wrong_grid(&g, dimensions, dims);
     *rank = g.me < size ? g.me : MPI_UNDEFINED;
+    out_of_count(&g);
     return finish(&g);
 }
 
@@ -365,6 +366,7 @@ int MPI_Graph_map(MPI_Comm c, int count, const int index[], const int edges[], i
     if (error)
         return error;
     *rank = g.me < count ? g.me : MPI_UNDEFINED;
+    out_of_count(&g);
     return finish(&g);
 }
 

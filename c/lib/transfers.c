@@ -199,7 +199,7 @@ static int is_waiting(int how)
 static long receive_packed(int how, const struct data *d, int source, int tag, MPI_Comm c, MPI_Status *status,
                            MPI_Request *request)
 {
-    static const struct rvmc_owner owner = {asked, started, inner, freed};
+    static const struct rvmc_owner owner = {asked, started, inner, freed, 0};
     struct receive *r = malloc(sizeof *r + d->size);
     MPI_Status own, *where = status ? status : &own;
     long code;

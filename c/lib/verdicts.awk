@@ -11,6 +11,7 @@ FILENAME == ARGV[1] && $1 == "outcome" {
     next
 }
 FILENAME == ARGV[1] && $1 == "endless" { endless = 1; next }
+FILENAME == ARGV[1] && $1 == "way" { way = ", also if messages take their time"; next }
 FILENAME == ARGV[1] { sub(/^last /, ""); last = $0; next }
 # which calls led to where a hart is
 FILENAME == ARGV[2] && /^rank [0-9]+ hart [0-9]+ / { hart = $2 " " $4; next }
@@ -18,7 +19,9 @@ FILENAME == ARGV[2] && /^  called from / { calls[hart] = calls[hart] "\n" substr
 FILENAME == ARGV[2] { next }
 /^outcome [0-9]+/ { number = $2 + 0; next }
 /^rank [0-9]+ output [0-9]+$/ { for (left = $4 + 1; left > 0 && (getline line) > 0; ) left -= length(line) + 1; next }
-number == needed && / hart [0-9]+ (waits|goes on) at / { needs[++n] = $0 }
+needed && number == needed && / hart [0-9]+ (waits|goes on) at / { needs[++n] = $0 }
+# lines behind these are of other harts
+/^(needs buffering|some runs go on for ever if sends wait): / { number = 0 }
 
 # the calls that led to where a hart needs buffers: behind the one at its own place
 function led_to(text, word, call, count, i, own, led) {
@@ -48,10 +51,10 @@ function outcomes(before) {
     before = sends == "" ? "" : sends " "
     if (!whole) return "not all were found: " left_out
     if (!ends) return before "no schedule comes to an end"
-    if (endless) return before "no schedule that ends leads to any other outcome"
+    if (endless) return before "no schedule that ends leads to any other outcome" way
     before = before "every schedule that ends leads to "
-    if (ends == found) return before (ends == 1 ? "this outcome" : "one of these " ends " outcomes")
-    return before (ends == 1 ? "" : "one of ") which("end trap abort dead")
+    if (ends == found) return before (ends == 1 ? "this outcome" : "one of these " ends " outcomes") way
+    return before (ends == 1 ? "" : "one of ") which("end trap abort dead") way
 }
 function deadlocks(text, who, i) {
     text = which("dead")

@@ -11,8 +11,9 @@ enum { BYTES_OF_LINE = 3000 };
 /* "rvmc-file-" and a hash of the sources, so that no program prints it without meaning to. */
 extern const char rvmc_marker[];
 
-void __real__exit(int code) __attribute__((noreturn));
-void __wrap__exit(int code) __attribute__((noreturn));
+/* rvmc-cc says what follows: the end, or what a program that has collectives does before. */
+void rvmc_behind_files(int code) __attribute__((noreturn));
+void rvmc_end_with_files(int code) __attribute__((noreturn));
 
 /* Begins a line of a file in the hart's own line, which is empty: the mark, and what it is. */
 static char *begin_line(const char *what)
@@ -98,11 +99,11 @@ static void put_file(const struct rvmc_file *file)
 }
 
 /* The end of hart 0 is that of the rank. */
-void __wrap__exit(int code)
+void rvmc_end_with_files(int code)
 {
     rvmc_put_line();
     for (const struct rvmc_file *file = rvmc_hart == 0 ? rvmc_held : 0; file; file = file->next)
         if (file->changed)
             put_file(file);
-    __real__exit(code);
+    rvmc_behind_files(code);
 }

@@ -6,3 +6,4 @@ pub mod Leading
 pub mod Rounds
 pub mod Others
 pub mod Below
+pub mod Waiting

@@ -237,7 +237,7 @@ module _ (kept : List AskedBy) (r : ℕ) (q : Request) (a : AskedBy) where
 
 -- ---- all of them
 
-of_any : (f : AskedBy → Bool) (xs : List AskedBy) → list_any f xs ≡ true
+pub of_any : (f : AskedBy → Bool) (xs : List AskedBy) → list_any f xs ≡ true
     → (i : ℕ) × (a : AskedBy) × (slice_get xs i ≡ Some a) × (f a ≡ true)
 of_any f [] is = absurd (cc)
 of_any f (x ∷ xs) is = elim (or_cases (f x) (list_any f xs) is) [
@@ -540,7 +540,7 @@ wanted_is (pattern.ByReceiver link) pattern.PollOfCuts is = absurd (cc)
 wanted_is (pattern.ByReceiver link) (pattern.BySender other) is = absurd (cc)
 wanted_is (pattern.ByReceiver link) (pattern.ByReceiver other) is = ap (λ c. pattern.ByReceiver c) (eqb-true other link is)
 
-here : (xs : List AskedBy) (i : ℕ) (none : AskedBy) → i < length xs → slice_get xs i ≡ Some (get_or xs i none)
+pub here : (xs : List AskedBy) (i : ℕ) (none : AskedBy) → i < length xs → slice_get xs i ≡ Some (get_or xs i none)
 here [] i none low = absurd (omega (arith, low))
 here (x ∷ xs) zero none low = refl
 here (x ∷ xs) (suc i) none low = here xs i none (omega (arith, low))

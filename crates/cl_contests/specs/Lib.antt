@@ -5,3 +5,4 @@ pub mod Turns
 pub mod Fits
 pub mod Lone
 pub mod Below
+pub mod Waiting

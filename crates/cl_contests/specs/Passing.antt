@@ -1,5 +1,5 @@
 -- Patterns that are looked up in the list, and those that a turn may pass.
-use Rattle.std.specs.Prelude.{ℕ, ◌≡◌, ◌==◌, ◌&&◌, Bool, true, List}
+use Rattle.std.specs.Prelude.{ℕ, ◌≡◌, ◌==◌, ◌&&◌, Bool, false, true, List}
 use Rattle.std.specs.List.{list_any}
 use Rattle.rv_image_types.specs.declared.images.Link.{Link}
 use Rattle.mp_types.specs.declared.requests.Request.{Request}
@@ -50,3 +50,11 @@ IsOnSide links a =
 -- each pattern that was there still is
 abbrev pub Keeps : List AskedBy → List AskedBy → Type 0
 Keeps old new = (r : ℕ) (wanted : Pattern) → has_pattern old r wanted ≡ true → has_pattern new r wanted ≡ true
+
+-- a rank that asks by this kept pattern only waits for named ranks
+pub record IsWaitKept (a : AskedBy) : Type 0 where
+  pub sources : (comm : ℕ) → is_any_source a.pattern comm ≡ false
+  pub claims : is_pattern a.pattern claim ≡ false
+  pub polls : is_pattern a.pattern poll ≡ false
+  pub polls_of_sends : is_pattern a.pattern poll_of_sends ≡ false
+  pub synchronous : (dest comm : ℕ) → is_pattern a.pattern (send true dest comm) ≡ false

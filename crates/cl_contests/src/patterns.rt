@@ -12,9 +12,10 @@ ghost use Rattle.cl_reduction_laws.specs.Patterns.{poll_of_sends, wait};
 ghost use Rattle.cl_reduction_laws.specs.Settled.{AreOnSides};
 ghost use Rattle.cl_reduction_laws.specs.Clusters.{IsAtBox};
 ghost use Rattle.cl_contests.specs.Kept.{is_same_bool, patterns_of, search_of, wild_of};
-ghost use Rattle.cl_contests.specs.Passing.{InitMayPassKept, IsOnSide, Keeps, MayMeetKept, MayPassKept, has_pattern};
+ghost use Rattle.cl_contests.specs.Passing.{InitMayPassKept, IsOnSide, IsWaitKept, Keeps, MayMeetKept, MayPassKept, has_pattern};
 ghost use Rattle.cl_contests.specs.Passing.{is_wanted as is_wanted_of};
 ghost use Rattle.cl_contests.specs.Turns.{IsUncontested, MayGoFirst};
+ghost use Rattle.cl_contests.specs.Waiting.{OnlyWaits};
 
 use cl_moves::Standing;
 use cl_rests::rests;
@@ -242,6 +243,18 @@ fn is_on_side(links: &[Link], asked: &AskedBy) -> bool
             None => false,
         },
         _ => true,
+    }
+}
+
+/// Whether a rank that asks so only waits for named ranks, or makes what others may wait for.
+fn is_wait(asked: &AskedBy) -> bool
+    ensures { IsTrue result → IsWaitKept asked.now }
+{
+    match asked.pattern {
+        Pattern::Send { sync, .. } => !sync,
+        Pattern::Receive | Pattern::Initialisation { .. } | Pattern::PollOfCuts => true,
+        Pattern::BySender { .. } | Pattern::ByReceiver { .. } => true,
+        Pattern::Poll | Pattern::PollOfSends | Pattern::Claim | Pattern::AnySource { .. } => false,
     }
 }
 
@@ -506,6 +519,19 @@ impl Patterns {
     {
         for asked in self.kept.as_slice() {
             if !is_on_side(links, asked) {
+                return false;
+            }
+        }
+        true
+    }
+
+    /// Whether ranks only wait for named ranks: none asks for any source, claims a message, goes on where nothing is there, or
+    /// sends synchronously. Then it doesn't matter how long messages take.
+    pub fn only_wait(&self) -> bool
+        ensures { IsTrue result → OnlyWaits (search_of self.now.may_wait self.now.kept.items) }
+    {
+        for asked in self.kept.as_slice() {
+            if !is_wait(asked) {
                 return false;
             }
         }

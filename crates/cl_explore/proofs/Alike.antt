@@ -1,7 +1,7 @@
 -- Clusters that are alike, from what was compared of them.
-use Rattle.std.specs.Prelude.{ℕ, suc, ◌+◌, ◌/◌, ◌%◌, ◌<◌, ◌≤◌, ◌≡◌, List, [], ◌∷◌, length, map, slice_get, Option, Some, None, IfSome, Bool, true}
+use Rattle.std.specs.Prelude.{ℕ, ◌+◌, ◌/◌, ◌%◌, ◌≤◌, ◌≡◌, List, length, map, slice_get, Option, Some, None, IfSome, Bool, true}
 use Rattle.std.proofs.Common.{refl, sym, ap, ◌∙◌, subst, arith, inl, inr}
-use Rattle.std.proofs.lemmas.Bool.{cases_Bool, cases_eq}
+use Rattle.std.proofs.lemmas.Bool.{cases_Bool}
 use Rattle.std.proofs.lemmas.Option.{slice_get_within}
 use Rattle.rv_image_types.specs.declared.images.ImageParts.{ImageParts}
 use Rattle.part_box.specs.declared.settled.Settled.{Settled}
@@ -29,22 +29,12 @@ use Rattle.cl_moves.specs.declared.standing.Standing.{Standing}
 use Rattle.cl_explore.specs.How.{AreAlikeIn, How, at_once, by_contest, how_of, plainly}
 use Rattle.cl_explore.specs.declared.course.Way.TheVariants as ways
 use Rattle.cl_explore.specs.Kept.{IsAlikeKept, IsFound, KeptStandsAt}
-use Rattle.cl_explore.specs.Likeness.{AreAlikeLinks, AreNamedIn, HaveSameSites, IsAlikeSettled}
+use Rattle.cl_alike.specs.Boxes.{AreAlikeLinks, IsAlikeSettled}
+use Rattle.cl_explore.specs.Likeness.{AreNamedIn, HaveSameSites}
 use Rattle.cl_explore.specs.declared.kept.KeptNode.{KeptNode}
 use Rattle.cl_explore.proofs.Lists.{at_inside}
 
 -- ---- lists
-
--- what stands at each place is made of what stands there in the other list
-pub mapped_by : {A B : Type 0} (f : A → B) (xs : List A) (ys : List B) → length ys ≡ length xs
-    → ((i : ℕ) (x : A) (y : B) → slice_get xs i ≡ Some x → slice_get ys i ≡ Some y → y ≡ f x) → ys ≡ map f xs
-mapped_by f [] [] many each = refl
-mapped_by f [] (y ∷ ys) many each = absurd (omega (arith, many))
-mapped_by f (x ∷ xs) [] many each = absurd (omega (arith, many))
-mapped_by f (x ∷ xs) (y ∷ ys) many each =
-    let head : y ≡ f x = each 0 x y refl refl in
-    let tail : ys ≡ map f xs = mapped_by f xs ys (omega (arith, many)) (λ i u v at there. each (suc i) u v at there) in
-    λ k. head k ∷ tail k
 
 -- each that stands at a place in the first list corresponds to the one there in the other
 pub each_of : {A : Type 0} (Alike : A → A → Type 0) (xs ys : List A) → length ys ≡ length xs
@@ -56,17 +46,6 @@ each_of Alike xs ys many alike = record {
       let y = at_inside ys i (omega (arith, inside, many)) in
       (y.0, y.1, alike i x y.0 at y.1);
 }
-
--- and so does what stands at one place more
-pub below_more : {A B : Type 0} (P : A → B → Type 0) (xs : List A) (ys : List B) (n : ℕ)
-    → ((i : ℕ) → i < n → (x : A) (y : B) → slice_get xs i ≡ Some x → slice_get ys i ≡ Some y → P x y)
-    → ((x : A) (y : B) → slice_get xs n ≡ Some x → slice_get ys n ≡ Some y → P x y)
-    → (i : ℕ) → i < n + 1 → (x : A) (y : B) → slice_get xs i ≡ Some x → slice_get ys i ≡ Some y → P x y
-below_more P xs ys n before here i low x y at there = elim (cases_eq n i) [
-  | inl same ↦
-      here x y (subst (λ k. slice_get xs k ≡ Some x) (sym same) at) (subst (λ k. slice_get ys k ≡ Some y) (sym same) there)
-  | inr other ↦ before i (omega (arith, low, other)) x y at there
-]
 
 -- ---- ranks
 

@@ -1,5 +1,5 @@
 -- One schedule, followed to its end.
-use Rattle.std.specs.Prelude.{ℕ, ◌+◌, ◌≡◌, ◌<◌, List, [], ◌∷◌, ◌++◌, length, slice_get, Option, Some, None, Bool, true, IfSome}
+use Rattle.std.specs.Prelude.{ℕ, ◌+◌, ◌≡◌, ◌<◌, List, [], ◌∷◌, ◌++◌, length, slice_get, Option, Some, None, Bool, false, true, IfSome}
 use Rattle.std.specs.Option.{option_to_list}
 use Rattle.std.proofs.Common.{refl, sym, ap, ◌∙◌, subst, arith, inl, inr}
 use Rattle.std.proofs.lemmas.List.{length-append}
@@ -107,6 +107,7 @@ told kept ends companies leads left may_wait resting = record {
   leads = leads;
   left = left;
   may_wait = may_wait;
+  only_waits = false;
   resting = resting;
 }
 
@@ -165,6 +166,7 @@ module _ (image : ImageParts) (order : List ℕ) (start : Node) (kept more : Lis
         judged = λ right i node visited. e.judged right i node (was i node visited);
         all = λ none. absurd (omega (arith, none));
         waits = e.waits;
+        named = λ none. absurd (cc);
         unneeded = λ right is i node visited. e.unneeded right is i node (was i node visited);
         counted =
             let so = e.counted in

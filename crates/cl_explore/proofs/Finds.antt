@@ -381,7 +381,7 @@ covered_ends plainly order nodes start here cov reach begins room closed few fit
 module _ (how : How) (image : ImageParts) (order : List ℕ) (start : Node) (search : Search) (found : Findings)
     (done : ℕ) (explored : SoFar how image order start search found.ends found.companies found.resting done)
     (kept : found.kept ≡ search.nodes.items) (leads : found.leads ≡ search.leads.items)
-    (may_wait : found.may_wait ≡ waits_in how) (came : IsFound image order start)
+    (may_wait : found.may_wait ≡ waits_in how) (unasked : found.only_waits ≡ false) (came : IsFound image order start)
     (room : HasRoom how (hub_of start.cluster.journal)) (begins_well : MayBegin how order start) where
   abbrev them : List Node
   them = explored.nodes
@@ -426,6 +426,7 @@ module _ (how : How) (image : ImageParts) (order : List ℕ) (start : Node) (sea
       judged = λ right i node visited. explored.judged right i node (low i visited.0) visited.1;
       all = λ is. all_ends (omega (arith, is, many));
       waits = λ is. may_wait_in how (sym may_wait ∙ is);
+      named = λ is. (let no : false ≡ true = sym unasked ∙ is in absurd (cc));
       unneeded = λ right is i node visited.
           explored.unneeded right (sym may_wait ∙ is) i node (low i visited.0) visited.1
           (one_of_other image order start node came
@@ -479,12 +480,12 @@ more_from how order standing old new ends now companies after resting rest done 
 pub tells_from : (how : How) (order : List ℕ) (standing : Standing) (search : Search) (found : Findings)
     (done : ℕ) → HasRoom how standing.whole
     → SoFarFrom how order standing search found.ends found.companies found.resting done → found.kept ≡ search.nodes.items
-    → found.leads ≡ search.leads.items → found.may_wait ≡ waits_in how
+    → found.leads ≡ search.leads.items → found.may_wait ≡ waits_in how → found.only_waits ≡ false
     → found.left ≡ length search.nodes.items - done
     → ExploresFrom how order standing found
-tells_from how order standing search found done room so_far kept leads may_wait many = λ image here stands way begins_well.
+tells_from how order standing search found done room so_far kept leads may_wait unasked many = λ image here stands way begins_well.
     let s = so_far image here stands way in
-    tells_all how image order here search found done s.0 kept leads may_wait
+    tells_all how image order here search found done s.0 kept leads may_wait unasked
     (standing.steps.items, way) (subst (HasRoom how) stands.whole room) begins_well (omega (arith, many, s.1))
 
 -- from the loaded cluster

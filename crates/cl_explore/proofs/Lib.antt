@@ -1,5 +1,4 @@
 pub mod Lists
-pub mod Same
 pub mod Winding
 pub mod Keeping
 pub mod Staying
@@ -15,3 +14,4 @@ pub mod Fronts
 pub mod Below
 pub mod Hears
 pub mod Needing
+pub mod Named

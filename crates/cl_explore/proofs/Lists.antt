@@ -2,7 +2,7 @@
 use Rattle.std.specs.Prelude.{ℕ, zero, suc, ◌<◌, ◌≡◌, ◌⊎◌, List, [], ◌∷◌, ◌++◌, length, get_or, slice_get, slice_set, Some}
 use Rattle.std.proofs.Common.{refl, sym, ap, ◌∙◌, subst, arith, inl, inr}
 use Rattle.std.proofs.lemmas.Bool.{cases_eq, cases_lt}
-use Rattle.std.proofs.lemmas.Option.{same_Some, slice_get_past}
+use Rattle.std.proofs.lemmas.Option.{slice_get_past}
 use Rattle.cl_machine.proofs.Lists.{get-set_other, get-set_same, same_by_index}
 
 -- what stands at a place inside
@@ -32,12 +32,7 @@ was_or_new (z ∷ xs) y (suc i) x at = elim (was_or_new xs y i x at) [
   | inr new ↦ inr (ap suc new.0, new.1)
 ]
 
--- what is read at a place inside, whatever stands for one outside
-pub read_at : {A : Type 0} (xs : List A) (n : ℕ) (x d : A) → slice_get xs n ≡ Some x → get_or xs n d ≡ x
-read_at [] n x d at = absurd (cc)
-read_at (y ∷ xs) zero x d at = same_Some y x at
-read_at (y ∷ xs) (suc n) x d at = read_at xs n x d at
-
+-- what is read at a place inside is what stands there
 pub read_of : {A : Type 0} (xs : List A) (n : ℕ) (x : A) → n < length xs → x ≡ get_or xs n x → slice_get xs n ≡ Some x
 read_of [] n x low is = absurd (omega (arith, low))
 read_of (y ∷ xs) zero x low is = ap (λ z. Some z) (sym is)

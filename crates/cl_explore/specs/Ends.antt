@@ -15,7 +15,7 @@ use Rattle.cl_moves.specs.Standing.{IsWay, StandsAt, by_order, first_node}
 use Rattle.cl_moves.specs.declared.standing.Standing.{Standing}
 use Rattle.cl_explore.specs.Companies.{IsCompanyAt, IsJudged}
 use Rattle.cl_explore.specs.Covering.{AreLeads, AreNodes, IsClosedAt, IsClosedFrom, Reaches}
-use Rattle.cl_explore.specs.How.{HasRoom, How, IsFitFor, MayBegin, MayWaitIn, plainly}
+use Rattle.cl_explore.specs.How.{HasRoom, How, IsFitFor, MayBegin, MayWaitIn, OnlyWaitIn, plainly}
 use Rattle.cl_explore.specs.Orders.{IsOrderedWay}
 use Rattle.cl_explore.specs.declared.companies.Company.{Company}
 use Rattle.cl_explore.specs.declared.exploring.Exploration.{Exploration}
@@ -43,8 +43,8 @@ AreAllEnds order start nodes ends =
     × AreAlikeEnds end node.cluster
 
 -- what a search found: the nodes that are kept, which of them are ends, which ranks are stuck in which of them, between
--- which of them moves led, how many are left whose moves weren't made, whether standard sends might wait in it, and then which
--- ranks rest in each node whose moves were made
+-- which of them moves led, how many are left whose moves weren't made, whether standard sends might wait in it, whether ranks
+-- only wait for named ranks, and which ranks rest in each node whose moves were made
 pub record Findings : Type 0 where
   pub kept : List KeptNode
   pub ends : List ℕ
@@ -52,6 +52,7 @@ pub record Findings : Type 0 where
   pub leads : List Lead
   pub left : ℕ
   pub may_wait : Bool
+  pub only_waits : Bool
   pub resting : List ℕ
 
 abbrev pub findings : Exploration → Findings
@@ -62,6 +63,7 @@ findings found = record {
   leads = found.leads.items;
   left = found.left;
   may_wait = found.may_wait;
+  only_waits = found.only_waits;
   resting = found.resting.items;
 }
 
@@ -102,6 +104,7 @@ pub record ExploredFrom (image : ImageParts) (order : List ℕ) (start : Node) (
       → IsJudged found.companies i node.cluster
   pub all : found.left ≡ 0 → AreAllEnds order start nodes found.ends
   pub waits : found.may_wait ≡ true → MayWaitIn how
+  pub named : found.only_waits ≡ true → OnlyWaitIn how
   pub unneeded : IsImage image → found.may_wait ≡ true → (i : ℕ) (node : Node) → IsVisitedNode nodes found.left i node
       → IsNoNeed node.cluster
   pub counted : length found.resting + found.left ≡ length found.kept

@@ -10,6 +10,7 @@ use Rattle.cl_contests.specs.Below.{AreAlike, Contest, IsFit}
 use Rattle.cl_contest_laws.specs.Below.{AreAlikeNodes}
 use Rattle.cl_contest_laws.specs.Lists.{StartsWell}
 use Rattle.cl_contests.specs.Kept.{search_of}
+use Rattle.cl_contests.specs.Waiting.{OnlyWaits}
 use Rattle.cl_contests.specs.declared.patterns.AskedBy.{AskedBy}
 use Rattle.cl_explore.specs.declared.course.Manner.{Manner}
 use Rattle.cl_explore.specs.declared.course.Way.{Way}
@@ -73,7 +74,12 @@ abbrev pub MayWaitIn : How → Type 0
 MayWaitIn (by_contest contest) = contest.may_wait ≡ true
 MayWaitIn _ = ⊥
 
--- the same as an answer
+-- ranks only wait for named ranks
+abbrev pub OnlyWaitIn : How → Type 0
+OnlyWaitIn (by_contest contest) = OnlyWaits contest
+OnlyWaitIn _ = ⊥
+
+-- whether standard sends may wait, as an answer
 abbrev pub waits_in : How → Bool
 waits_in (by_contest contest) = contest.may_wait
 waits_in _ = false

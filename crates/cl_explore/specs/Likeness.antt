@@ -1,6 +1,5 @@
 -- What is compared of a standing and a node that is kept, part by part.
-use Rattle.std.specs.Prelude.{ℕ, ◌≡◌, List, length, slice_get, Some}
-use Rattle.part_box.specs.declared.settled.Settled.{Settled}
+use Rattle.std.specs.Prelude.{ℕ, ◌≡◌, List, slice_get, Some}
 use Rattle.mp_hub.specs.Hub.{HubView}
 use Rattle.mp_alike_laws.specs.Renaming.{Renaming}
 use Rattle.mp_alike_laws.specs.Alike.{AlikeHubs as SameHubs}
@@ -21,23 +20,6 @@ pub record AreNamedIn (how : How) (to : List ℕ) (a b : HubView) : Type 0 where
   pub names : Renaming
   pub listed : IsListed names to
   pub alike : AreHubsIn how names a b
-
--- ---- boxes
-
--- the same stands in both, whatever their stamps
-pub record IsAlikeSettled (a b : Settled) : Type 0 where
-  pub full : b.full ≡ a.full
-  pub words : b.words ≡ a.words
-
-pub record AreAlikeParts (parts others : List Settled) : Type 0 where
-  pub many : length others ≡ length parts
-  pub each : (i : ℕ) (s t : Settled) → slice_get parts i ≡ Some s → slice_get others i ≡ Some t → IsAlikeSettled s t
-
--- of each link
-abbrev pub AreAlikeLinks : List (List Settled) → List (List Settled) → Type 0
-AreAlikeLinks boxes others =
-    (link : ℕ) (parts more : List Settled) → slice_get boxes link ≡ Some parts → slice_get others link ≡ Some more
-    → AreAlikeParts parts more
 
 -- ---- ranks
 

@@ -1,5 +1,5 @@
 -- What is noted of nodes, one after another.
-use Rattle.std.specs.Prelude.{ℕ, ◌≡◌, [], ◌∷◌, ◌++◌, option_map}
+use Rattle.std.specs.Prelude.{ℕ, ◌≡◌, false, [], ◌∷◌, ◌++◌, option_map}
 use Rattle.cl_explore.specs.Companies.{NotesStuck}
 use Rattle.cl_explore.specs.Ends.{Findings, Notes}
 use Rattle.cl_explore.specs.How.{How, waits_in}
@@ -14,7 +14,7 @@ pub record NotesVisit (old : Noted) (visit : Visit) (node : ℕ) (new : Noted) :
   pub stuck : NotesStuck old.companies.items (option_map (λ ranks. ranks.items) visit.stuck) node new.companies.items
   pub resting : new.resting.items ≡ old.resting.items ++ visit.resting ∷ []
 
--- what a search found that goes so, and what was noted
+-- what a search found that goes so, and what was noted, before anybody asks whether ranks only wait for named ranks
 abbrev pub findings_of : How → Search → Told → Findings
 findings_of how search told = record {
   kept = search.nodes.items;
@@ -23,5 +23,6 @@ findings_of how search told = record {
   leads = search.leads.items;
   left = told.left;
   may_wait = waits_in how;
+  only_waits = false;
   resting = told.noted.resting.items;
 }

@@ -1,7 +1,7 @@
 //! What a search goes by.
 
-ghost use Rattle.std.specs.Prelude.{◌≡◌};
-ghost use Rattle.cl_explore.specs.How.{how_in, waits_in};
+ghost use Rattle.std.specs.Prelude.{◌≡◌, IsTrue};
+ghost use Rattle.cl_explore.specs.How.{OnlyWaitIn, how_in, waits_in};
 
 use cl_contests::Patterns;
 use rv_image_types::Image;
@@ -48,5 +48,16 @@ pub(crate) fn may_wait(course: &Manner<'_>) -> bool
     match course.way {
         Way::Plainly | Way::AtOnce => false,
         Way::First => course.patterns.may_wait,
+    }
+}
+
+/// Whether ranks only wait for named ranks: known only where turns go first that nobody contests, since then it is noted what
+/// each rank asks.
+pub(crate) fn only_waits(course: &Manner<'_>) -> bool
+    ensures { IsTrue result → OnlyWaitIn (how_in course.now) }
+{
+    match course.way {
+        Way::Plainly | Way::AtOnce => false,
+        Way::First => course.patterns.only_wait(),
     }
 }

@@ -19,7 +19,7 @@ ghost use Rattle.cl_lines.specs.Telling.{TellsProgress};
 
 use crate::bounds::{Bounds, goes_on, is_deep};
 use crate::companies::{Company, note_stuck};
-use crate::course::{Course, Manner, Way, may_wait};
+use crate::course::{Course, Manner, Way, may_wait, only_waits};
 use crate::halt::Halt;
 use crate::kept::KeptNode;
 use crate::leads::Lead;
@@ -64,6 +64,8 @@ pub struct Exploration {
     /// Whether standard sends might wait for their receives in this search: then no ranks need buffers in the nodes whose
     /// moves were made.
     pub may_wait: bool,
+    /// Whether ranks only wait for named ranks, so that it doesn't matter how long messages take.
+    pub only_waits: bool,
     /// Of each node whose moves were made, by its number: the ranks that rest there, if standard sends might wait for their
     /// receives. Otherwise they weren't looked for.
     pub resting: Vec<RankSet>,
@@ -417,6 +419,7 @@ fn search_on<L: Listener, E: Write>(
         long: told.noted.long,
         leads: search.leads,
         may_wait: may_wait(course),
+        only_waits: only_waits(course),
         resting: told.noted.resting,
         needs: Needs::Unsought,
     }))

@@ -5,8 +5,6 @@
 //! The laws of closed sets are those of `cl_order_laws`; what is done at one cluster is `cl_moves`.
 #![tactic(auto)]
 
-mod alike_boxes;
-mod alike_harts;
 mod bounds;
 mod candidates;
 mod companies;

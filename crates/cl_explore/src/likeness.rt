@@ -10,10 +10,9 @@ ghost use Rattle.cl_explore.specs.How.{how_of};
 ghost use Rattle.cl_explore.specs.Kept.{IsAlikeKept};
 ghost use Rattle.cl_explore.specs.Likeness.{AreNamedIn, HaveSameSites};
 
-use crate::alike_boxes::are_alike_boxes;
-use crate::alike_harts::{are_alike_harts, are_alike_slots};
 use crate::course::Way;
 use crate::kept::KeptNode;
+use cl_alike::{are_alike_boxes, are_alike_harts, are_alike_slots};
 use cl_moves::Standing;
 use cl_replay::SharedRank;
 use cl_rests::post_of_send;

@@ -68,7 +68,15 @@ with --buffered, --from and --join, where ranks that need buffers are listed, wh
 ranks have several harts, and where it is unknown whether ranks need buffers: where
 looking for them took more than --states states, or where nobody can look for them,
 as one waits for a partition that it hasn't made ready itself. A line above the
-last one says that it is unknown, and the status is 4.
+last one says which of the last two it is. If it is unknown, the status is 4.
+
+`some runs go on for ever` means that a run can come to a state from which nothing
+leads to an end. The lines above it say where harts run in such a state, as
+`rank 0 hart 0 goes on at poll.c:9 in main`. --from and --join leave them out.
+
+`, also with messages on their way` behind it means that it makes no difference
+how long messages take: each end of a run on a network is listed too. It is
+printed where ranks have one hart each and only wait for ranks that they name.
 
 A search may take long. --progress prints a line on standard error after 100,
 200, .. 900, 1000, 2000, .. states: how many of them are ends, and how many more

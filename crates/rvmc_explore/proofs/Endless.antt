@@ -1,6 +1,6 @@
 -- What the findings of a search say of runs of any length.
 use Rattle.std.proofs.Common.{ℕ, zero, suc, ◌≡◌, ◌<◌, ◌==◌, ◌⊎◌, ◌∙◌, List, [], ◌∷◌, length, map, Bool, true, false, IsTrue, Some, slice_get, inl, inr, refl, sym, subst, ap, arith, get_or}
-use Rattle.std.specs.Prelude.{◌%◌, ◌&&◌, ◌||◌, not}
+use Rattle.std.specs.Prelude.{◌%◌, ◌&&◌, ◌||◌, IfNone, Option, None, is_some, not}
 use Rattle.std.specs.List.{list_any}
 use Rattle.std.proofs.lemmas.Bool.{and_from, eq-eqb, eqb-true, or_cases}
 use Rattle.std.proofs.lemmas.List.Elements.{All-get_or}
@@ -42,7 +42,10 @@ use Rattle.cl_explore.specs.declared.leads.Lead.{Lead}
 use Rattle.cl_explore.proofs.Covers.{lead_of}
 use Rattle.cl_explore.proofs.Keeping.{node_found}
 use Rattle.cl_explore.proofs.Lists.{at_inside}
-use Rattle.rvmc_explore.specs.Endless.{AllMayEnd, AreComplete, NeverNeeds, NeverStuck, SaysEndsAnyway, SaysNoneNeed, SaysNoneStuck, SaysUnendingOf, SomeNeverEnds}
+use Rattle.rvmc_explore.specs.Endless.{AllMayEnd, AreComplete, NeverNeeds, NeverStuck, SaysEndsAnyway, SaysNoneNeed, SaysNoneStuck, SaysUnendingOf}
+use Rattle.rvmc_explore.specs.Hanging.{EachGoes}
+use Rattle.rvmc_explore.specs.InnerGoing.{TellsEndless}
+use Rattle.rvmc_explore.specs.Marks.{TellsMarkedAlone}
 use Rattle.rvmc_explore.specs.Searched.{AreSound, GoesIn}
 
 -- ---- moves as edges
@@ -346,19 +349,6 @@ module _ (image : ImageParts) (order : List ℕ) (start : Node) (found : Finding
       | inr set ↦ absurd (unset set)
     ]
 
-    pub some_never_ends : (i : ℕ) → slice_get marks i ≡ Some false → SomeNeverEnds image order
-    some_never_ends i at =
-        let low = slice_get_within marks i false at in
-        let node = at_inside nodes i (omega (arith, low, many, explored.are.many)) in
-        let way = reached i node.0 node.1 in
-        let is : inside i ≡ true = ap not (get_or_from_slice_get marks i false true at) in
-        record {
-          steps = way.0;
-          there = node.0;
-          way = way.1;
-          never = never_by image order start nodes found.leads explored.how whole inside trap i node.0 is node.1;
-        }
-
     -- ---- where each is marked
 
     pub all_may_end : AreSound found.leads found.ends marks
@@ -472,13 +462,44 @@ have_harts image order cluster reached harts = λ r n rank at.
 pub says_nothing : (found : Findings) → 0 < found.left → SaysUnendingOf found false
 says_nothing found left = λ image order start reached explored all harts. absurd (omega (arith, left, all))
 
--- the marks of the nodes that lead to an end say it
-pub says_unending : (found : Findings) (marks : List Bool) (unending : Bool) → found.left ≡ 0
-    → length marks ≡ length found.kept → AreSound found.leads found.ends marks → AreComplete found.leads found.ends marks
-    → (unending ≡ true → (i : ℕ) × (slice_get marks i ≡ Some false))
-    → (unending ≡ false → (i : ℕ) → i < length marks → slice_get marks i ≡ Some true) → SaysUnendingOf found unending
-says_unending found marks true all many sound complete some each = λ image order start reached explored.
-    let one = some refl in some_never_ends image order start found explored all marks many complete one.0 one.1
-says_unending found marks false all many sound complete some each = λ image order start reached explored none harts.
-    all_may_end image order start found explored all marks many complete sound (each refl)
+-- marks of the nodes that lead to an end, beside marks of all nodes: one that isn't among the first leads to none
+pub tells_endless : (found : Findings) (marks all : List Bool) (node : Option ℕ) → found.left ≡ 0
+    → length marks ≡ length found.kept → length all ≡ length found.kept
+    → ((i : ℕ) → i < length all → slice_get all i ≡ Some true)
+    → AreSound found.leads found.ends marks → AreComplete found.leads found.ends marks → TellsMarkedAlone all marks node
+    → TellsEndless found node
+tells_endless found marks all (Some i) whole many as_many each sound complete is =
+    let low = slice_get_within all i true is.0 in (
+      omega (arith, low, as_many),
+      λ image order start explored.
+          let node = at_inside explored.nodes i (omega (arith, low, as_many, explored.are.many)) in (
+            node.0,
+            node.1,
+            never_ends image order start found explored whole marks many complete i node.0 node.1 is.1,
+          ),
+    )
+tells_endless found marks all None whole many as_many each sound complete is = λ image order start reached explored none harts.
+    all_may_end image order start found explored whole marks many complete sound
+    (λ i low. let inside : i < length all = omega (arith, low, many, as_many) in is i inside (each i inside))
     (have_harts image order start.cluster reached harts)
+
+-- so some runs go on for ever where one is told, and else each can still end
+pub says_unending : (found : Findings) (node : Option ℕ) → TellsEndless found node → SaysUnendingOf found (is_some node)
+says_unending found None tells = tells
+says_unending found (Some i) tells = λ image order start reached explored.
+    let there = tells.1 image order start explored in
+    let way = node_found image order found.kept explored.nodes explored.are i there.0 there.1 in
+    record { steps = way.0; there = there.0; way = way.1; never = there.2 }
+
+-- the same of moves
+pub each_goes : (found : Findings) (node : Option ℕ) → IfNone node (found.left ≡ 0 → EachGoes found) → is_some node ≡ false
+    → found.left ≡ 0 → EachGoes found
+each_goes found None goes none = goes
+each_goes found (Some i) goes none = absurd (cc)
+
+pub none_goes : (found : Findings) (marks all : List Bool) (node : Option ℕ) → length all ≡ length found.kept
+    → ((i : ℕ) → i < length all → slice_get all i ≡ Some true) → AreSound found.leads found.ends marks
+    → TellsMarkedAlone all marks node → IfNone node (found.left ≡ 0 → EachGoes found)
+none_goes found marks all None as_many each sound is = λ whole i low.
+    let inside : i < length all = omega (arith, low, as_many) in sound i (is i inside (each i inside))
+none_goes found marks all (Some i) as_many each sound is = tt

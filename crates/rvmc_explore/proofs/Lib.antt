@@ -17,3 +17,4 @@ pub mod Statuses
 pub mod Hanging
 pub mod Hung
 pub mod Forever
+pub mod RunsOn

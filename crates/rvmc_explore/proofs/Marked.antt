@@ -1,7 +1,8 @@
 -- Marks of nodes that lead to some.
-use Rattle.std.specs.Prelude.{ℕ, zero, suc, ◌+◌, ◌-◌, ◌<◌, ◌≤◌, ◌≡◌, ◌⊎◌, List, [], ◌∷◌, ◌++◌, cond, drop, length, not, slice_get, slice_set, take, Bool, true, false, Some}
+use Rattle.std.specs.Prelude.{ℕ, zero, suc, ◌+◌, ◌-◌, ◌<◌, ◌≤◌, ◌≡◌, ◌⊎◌, List, [], ◌∷◌, ◌++◌, cond, drop, length, not, replicate, slice_get, slice_set, take, Bool, true, false, Some}
 use Rattle.std.proofs.Math.Seq.{take-append_seam}
 use Rattle.std.proofs.Common.{refl, sym, ap, ◌∙◌, subst, arith, inl, inr, get_or}
+use Rattle.std.proofs.lemmas.List.{get_or-replicate, length-replicate}
 use Rattle.std.proofs.lemmas.List.Sums.{sum_by-set}
 use Rattle.std.proofs.lemmas.Bool.{cases_eq}
 use Rattle.std.proofs.lemmas.Option.{same_Some, slice_get-get_or, slice_get_within}
@@ -188,3 +189,14 @@ pub marked_each : (leads : List Lead) (place : ℕ) (more : Bool) (old new : Lis
     → MarkedSoFar leads place more old new → more ≡ false → AreMarkedFrom leads 0 new
 marked_each leads place more old new all so_far is =
     subst (λ k. AreMarkedFrom leads k new) (omega (arith, all)) (so_far.done is)
+
+-- ---- marks of all nodes
+
+pub all_many : (all : List Bool) (count : ℕ) → all ≡ replicate count true → length all ≡ count
+all_many all count same = ap length same ∙ length-replicate count true
+
+pub all_set : (all : List Bool) (count : ℕ) → all ≡ replicate count true → (i : ℕ) → i < length all → slice_get all i ≡ Some true
+all_set all count same i low =
+    let inside : i < count = (let many = all_many all count same in omega (arith, low, many)) in
+    slice_get-get_or all i false low
+    ∙ ap Some (ap (λ (marks : List Bool). get_or marks i false) same ∙ get_or-replicate count i true false inside)

@@ -40,26 +40,26 @@ use Rattle.rvmc_explore.proofs.EndTexts.{found_way, lines_alike, lines_of_states
 -- ---- the text of an end
 
 module _ (image : ImageParts) (order : List ℕ) (buffered : Bool) (states turns : ℕ) (told : List Outcome)
-    (listed : IsListOf image order buffered states turns told) (whole : (listed.found).left ≡ 0) where
+    (listed : IsListOf image order buffered states turns told) where
   abbrev explored : Explored image order listed.found
   explored = (listed.searched).explored
 
-  tells_end : (steps : List Step) (end : Cluster) → IsRun (loaded_cluster image) steps end
-      → FollowPlans (by_order order) none_had steps → IsEnd (by_order order) end
+  -- of a cluster that is alike an end that was found
+  pub tells_alike : (end : Cluster) (k i : ℕ) (node : Node) → slice_get (listed.found).ends k ≡ Some i
+      → slice_get explored.nodes i ≡ Some node → AreAlikeEnds end node.cluster
       → TellsEnd image order buffered states turns told listed end
-  tells_end steps end run follow is =
-      let v = explored.all whole steps end run follow is in
-      let body = end_told order image listed.found told listed.are v.0 v.1 v.3 in
+  tells_alike end k i node noted there alike =
+      let body = end_told order image listed.found told listed.are k i noted in
       let kept = (body.2).is in
       let text = (body.2).told in
-      let ranks : map rank_of (body.2).state.ranks.items ≡ v.2.cluster.ranks =
+      let ranks : map rank_of (body.2).state.ranks.items ≡ node.cluster.ranks =
       ap (λ (s : Snapshot). s.ranks) kept.same
-      ∙ sym (ranks_kept image order (first_node image) listed.found explored v.1 kept.what v.2 kept.there v.4) in
+      ∙ sym (ranks_kept image order (first_node image) listed.found explored i kept.what node kept.there there) in
       record {
-        number = v.1;
-        node = v.2;
-        there = v.4;
-        alike = v.5;
+        number = i;
+        node = node;
+        there = there;
+        alike = alike;
         body = body.0;
         told_is = body.1;
         is = body.2;
@@ -67,14 +67,20 @@ module _ (image : ImageParts) (order : List ℕ) (buffered : Bool) (states turns
         begins = text.spelled
             ∙ ap (λ lines. lines ++ text.waiting)
             (lines_of_states order 0 (body.2).state.ranks.items
-            ∙ ap (lines_from order 0) ranks ∙ lines_alike order end v.2.cluster v.5);
+            ∙ ap (lines_from order 0) ranks ∙ lines_alike order end node.cluster alike);
         alone = λ none.
             let waits : any_waits order (body.2).state.ranks.items ≡ false =
             waits_of_states order (body.2).state.ranks.items
-            ∙ ap (list_any (λ (rank : Rank). one_waits order rank.harts)) ranks ∙ waits_alike order end v.2.cluster v.5
+            ∙ ap (list_any (λ (rank : Rank). one_waits order rank.harts)) ranks ∙ waits_alike order end node.cluster alike
             ∙ none in
             subst (λ b. IsWaitText b image (body.2).state text.waiting) waits text.told;
       }
+
+  tells_end : (listed.found).left ≡ 0 → (steps : List Step) (end : Cluster) → IsRun (loaded_cluster image) steps end
+      → FollowPlans (by_order order) none_had steps → IsEnd (by_order order) end
+      → TellsEnd image order buffered states turns told listed end
+  tells_end whole steps end run follow is =
+      let v = explored.all whole steps end run follow is in tells_alike end v.0 v.1 v.2 v.3 v.4 v.5
 
 -- ---- ranks that need buffers
 

@@ -9,7 +9,8 @@ use Rattle.cl_explore.specs.Covering.{HasLead, HasLeadBy}
 use Rattle.cl_explore.specs.Ends.{ExploredFrom, Findings}
 use Rattle.cl_explore.specs.declared.leads.Lead.{Lead}
 use Rattle.rvmc_explore.specs.Endless.{AreComplete}
-use Rattle.rvmc_explore.specs.InnerPatient.{ArePatient, LeadInside, TellsHanging, TellsMarkedAlone, is_patient}
+use Rattle.rvmc_explore.specs.InnerPatient.{ArePatient, LeadInside, TellsHanging, is_patient}
+use Rattle.rvmc_explore.specs.Marks.{TellsMarkedAlone}
 use Rattle.rvmc_explore.specs.Patient.{PatientlyGoesIn, noted_at}
 use Rattle.rvmc_explore.specs.Searched.{AreSound, GoesIn}
 

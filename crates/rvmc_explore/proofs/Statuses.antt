@@ -1,7 +1,8 @@
 -- What a status says of all runs, and that two searches have the same.
-use Rattle.std.specs.Prelude.{ℕ, ◌≡◌, ◌==◌, ◌&&◌, ◌||◌, ◌⊎◌, List, Bool, false, true, if◌then◌else◌, length, not}
+use Rattle.std.specs.Prelude.{ℕ, ◌≡◌, ◌==◌, ◌&&◌, ◌||◌, ◌⊎◌, ◌++◌, List, Bool, false, true, if◌then◌else◌, length, not}
 use Rattle.std.proofs.Common.{refl, sym, ◌∙◌, ap, arith, inl, inr, subst}
 use Rattle.std.proofs.lemmas.Bool.{eqb-true}
+use Rattle.std.proofs.lemmas.List.{append_assoc}
 use Rattle.rv_image_types.specs.Image.{IsImage}
 use Rattle.rv_image_types.specs.declared.images.ImageParts.{ImageParts}
 use Rattle.cl_deadlock_laws.proofs.Reached.{comes_reached}
@@ -11,12 +12,12 @@ use Rattle.cl_explore.specs.Needing.{AreSought, SaysNeeds}
 use Rattle.cl_explore.specs.declared.needs.Needs.{Needs}
 use Rattle.cl_explore.specs.declared.needs.Needs.TheVariants as needs
 use Rattle.cl_moves.specs.Standing.{first_node}
-use Rattle.rvmc_explore.specs.Endless.{NeverNeeds, NeverStuck, SaysUnending}
+use Rattle.rvmc_explore.specs.Endless.{NeverNeeds, NeverStuck, SaysGoing, SaysUnending}
 use Rattle.rvmc_explore.specs.Hangs.{NeverHangs, SaysHanging}
 use Rattle.rvmc_explore.specs.Outcomes.{ListsNeed}
-use Rattle.rvmc_explore.specs.StatusLaw.{StatusLaw}
+use Rattle.rvmc_explore.specs.StatusLaw.{SaysWhyBuffered, StatusLaw, TellsWhereEndless}
 use Rattle.rvmc_explore.specs.declared.outcomes.Outcome.{Outcome}
-use Rattle.rvmc_explore.specs.Telling.{Tells, any_end, has_stuck, is_all, is_some_company, is_somebody, is_unknown, trapped_in, waits_in}
+use Rattle.rvmc_explore.specs.Telling.{Tells, any_end, ends_lines, has_stuck, is_all, is_some_company, is_somebody, is_unknown, last_line, needs_line, trapped_in, unending_line, waits_in}
 use Rattle.rvmc_explore.proofs.OneList.{one_list_law}
 
 -- ---- where all is told
@@ -175,6 +176,35 @@ needs_told image order buffered states turns text status sought tells =
         ((has_stuck order found || is_somebody (tells.listed).needs) || tells.hanging) tells.unending tells.status_is
         (ap (is_all found.left) is ∙ never_all (found.left == 0))))
 
+-- ---- where runs go on, and why sends are taken as buffered
+
+endless_told : (image : ImageParts) (order : List ℕ) (buffered : Bool) (states turns : ℕ) (text : List ℕ) (status : ℕ)
+    → (tells : Tells image order buffered states turns text status) → tells.unending ≡ true
+    → TellsWhereEndless image order text
+endless_told image order buffered states turns text status tells is =
+    let found = (tells.listed).found in
+    let counts = ends_lines 1 tells.told in
+    let line = unending_line tells.unending in
+    let unknown = needs_line buffered (tells.listed).needs in
+    let last = last_line (length tells.told) (length found.kept) found.left found.may_wait found.only_waits tells.long turns in
+    record {
+      going = tells.going;
+      of = subst (λ (ends : Bool). SaysGoing image order ends tells.going) is tells.going_is;
+      before = tells.body ++ counts;
+      after = unknown ++ last;
+      spelled = tells.spelled ∙ sym (append_assoc tells.body counts (tells.going ++ (line ++ (unknown ++ last))))
+          ∙ ap (λ (ends : Bool). (tells.body ++ counts) ++ (tells.going ++ (unending_line ends ++ (unknown ++ last)))) is;
+    }
+
+why_buffered : (image : ImageParts) (order : List ℕ) (buffered : Bool) (found : Findings) (told : List Outcome) (known : Needs)
+    → SaysNeeds buffered image found (ListsNeed image order told) known → found.may_wait ≡ false
+    → SaysWhyBuffered image order buffered told known
+why_buffered image order true found told known says copied = inl refl
+why_buffered image order false found told needs.Unsought says copied = inr (inr (inl (refl, λ one. says (refl, one))))
+why_buffered image order false found told needs.Nobody says copied = absurd (let no = says.2 in let off = sym no ∙ copied in cc)
+why_buffered image order false found told needs.Somebody says copied = inr (inl says.1)
+why_buffered image order false found told needs.Unknown says copied = inr (inr (inr refl))
+
 -- ---- two searches
 
 -- what two searches know of them, if both know it
@@ -240,6 +270,10 @@ status_law = record {
         never_stuck = is.0;
         never_need = nobody_needs image order buffered states turns text 8 tells is.4 is.5;
       };
+  going = λ image order buffered states turns text status tells is.
+      endless_told image order buffered states turns text status tells is;
+  why = λ image order buffered states turns text status tells copied.
+      why_buffered image order buffered (tells.listed).found tells.told (tells.listed).needs (tells.listed).needs_are copied;
   needs = λ image order buffered states turns text status sought tells.
       needs_told image order buffered states turns text status sought tells;
   same = λ image order buffered states turns more longer text other status its right harts one two first second.

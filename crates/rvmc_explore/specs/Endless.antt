@@ -1,6 +1,6 @@
 -- What a search says of runs of any length, finished or not: whether they can still end, and whether ranks are stuck or need
 -- buffers.
-use Rattle.std.specs.Prelude.{ℕ, ◌≡◌, Bool, true, false, List, length, slice_get, Some}
+use Rattle.std.specs.Prelude.{ℕ, ◌≡◌, Bool, true, false, List, [], length, slice_get, Some}
 use Rattle.rv_image_types.specs.declared.images.ImageParts.{ImageParts}
 use Rattle.cl_machine.specs.Cluster.{Cluster, IsRun}
 use Rattle.cl_machine.specs.declared.steps.Step.{Step}
@@ -9,6 +9,8 @@ use Rattle.cl_outcome_laws.specs.Companies.{IsCompany}
 use Rattle.cl_outcome_laws.specs.Unending.{MayEnd, NeverEnds}
 use Rattle.cl_explore.specs.Below.{AreBelow}
 use Rattle.cl_deadlock_laws.specs.Stuck.{IsReachable}
+use Rattle.cl_replay.specs.States.{ClusterStandsFor}
+use Rattle.cl_replay.specs.declared.states.ClusterState.{ClusterState}
 use Rattle.cl_rest_laws.specs.Buffering.{NeedBuffers}
 use Rattle.cl_rest_laws.specs.Ends.{IsEndWhereSendsWait}
 use Rattle.cl_explore.specs.Below.{IsOrder}
@@ -17,6 +19,7 @@ use Rattle.cl_explore.specs.Covering.{HasLead}
 use Rattle.cl_explore.specs.Ends.{ExploredFrom, Findings}
 use Rattle.cl_explore.specs.declared.companies.Company.{Company}
 use Rattle.cl_explore.specs.declared.leads.Lead.{Lead}
+use Rattle.rvmc_explore.specs.HangTexts.{going_text}
 use Rattle.rvmc_explore.specs.Marks.{IsMarkedIfThere}
 
 -- ---- runs that never end
@@ -27,6 +30,18 @@ pub record SomeNeverEnds (image : ImageParts) (order : List ℕ) : Type 0 where
   pub there : Node
   pub way : IsWay (by_order order) (first_node image) steps there
   pub never : NeverEnds (by_order order) there
+
+-- the lines of harts that go on are of such a state
+pub record GoesOnThere (image : ImageParts) (order text : List ℕ) : Type 0 where
+  pub run : SomeNeverEnds image order
+  pub state : ClusterState
+  pub stands : ClusterStandsFor image state (run.there).cluster
+  pub spelled : text ≡ going_text image order state
+
+-- where some runs go on for ever; else there are none
+abbrev pub SaysGoing : ImageParts → List ℕ → Bool → List ℕ → Type 0
+SaysGoing image order true text = GoesOnThere image order text
+SaysGoing image order false text = text ≡ []
 
 -- wherever a run by the order leads from here, some turns by the order lead on to an end
 abbrev pub AllMayEnd : List ℕ → Node → Type 0

@@ -1,11 +1,13 @@
--- The text that `explore` prints of a state from which no run ends if standard sends wait for their receives.
-use Rattle.std.specs.Prelude.{ℕ, ◌-◌, false, if◌then◌else◌, List, [], ◌∷◌, ◌++◌, codes, length, take, Option, Some, None, slice_get}
-use Rattle.std.specs.List.{flat_map}
+-- The text that `explore` prints of a state from which no run ends if standard sends wait for their receives, and that of harts that
+-- go on where none ends anyway.
+use Rattle.std.specs.Prelude.{ℕ, ◌-◌, ◌&&◌, false, if◌then◌else◌, is_some, List, [], ◌∷◌, ◌++◌, codes, length, take, Option, Some, None, slice_get}
+use Rattle.std.specs.List.{enumerate_from, flat_map}
 use Rattle.rv_hart.specs.State.{State}
 use Rattle.rv_hart.specs.declared.state.Mode.{Mode}
 use Rattle.rv_hart.specs.declared.state.Mode.TheVariants.{Running}
 use Rattle.rv_image_types.specs.declared.images.ImageParts.{ImageParts}
 use Rattle.rv_image_types.specs.declared.images.Symbol.{Symbol}
+use Rattle.cl_deadlock_laws.specs.Stuck.{is_among}
 use Rattle.cl_state.specs.Rank.{Rank}
 use Rattle.cl_state.specs.Room.{rank_of}
 use Rattle.cl_state.specs.declared.state.RankState.{RankState}
@@ -35,10 +37,10 @@ going_place symbols rank hart =
     else (if is_in_library symbols rank.memory hart then calling_text symbols rank hart
     else named_address_text symbols hart.pc)
 
--- `rank 1 hart 0 goes on at poll.c:9 in main`
-abbrev pub going_line : List Symbol → ℕ → Rank → State → List ℕ
-going_line symbols number rank hart =
-    hart_head number 0 ++ (codes "goes on at " ++ (going_place symbols rank hart ++ newline))
+-- `rank 1 hart 0 goes on at poll.c:9 in main`, of rank r and its hart of this number
+abbrev pub going_line : List Symbol → ℕ → Rank → ℕ → State → List ℕ
+going_line symbols r rank number hart =
+    hart_head r number ++ (codes "goes on at " ++ (going_place symbols rank hart ++ newline))
 
 -- the hart, if it runs
 abbrev pub if_runs : State → Mode → Option State
@@ -52,7 +54,7 @@ running (Some hart) = if_runs hart hart.mode
 
 -- a rank that doesn't rest: where its first hart goes on, if that runs, and else what `why` tells of its harts
 abbrev pub awake_text : ImageParts → ClusterState → ℕ → RankState → Option State → List ℕ
-awake_text image state number own (Some hart) = going_line image.symbols number (rank_of own) hart
+awake_text image state number own (Some hart) = going_line image.symbols number (rank_of own) 0 hart
 awake_text image state number own None =
     hart_waits_text false image.symbols state.hub state.boxes.items number (rank_of own)
 
@@ -85,3 +87,24 @@ hang_line state ranks =
 -- how each rank stands that hasn't stopped, in order, where those of the set rest, and that some runs go on for ever
 abbrev pub hang_text : ImageParts → ClusterState → ℕ → List ℕ
 hang_text image state resting = flat_map (hang_rank_text image state resting) each_rank ++ hang_line state each_rank
+
+-- ---- where no run ends, whether sends wait or not
+
+-- the line of rank r's hart of this number, if it is one of those that take turns, and runs
+abbrev pub hart_going : List Symbol → List ℕ → ℕ → Rank → ℕ → State → List ℕ
+hart_going symbols order r rank number hart =
+    if is_among order number && is_some (if_runs hart hart.mode) then going_line symbols r rank number hart else []
+
+-- those of these harts of a rank, the first of which has this number
+abbrev pub harts_going : List Symbol → List ℕ → ℕ → Rank → ℕ → List State → List ℕ
+harts_going symbols order r rank number harts =
+    flat_map (λ hart. hart_going symbols order r rank hart.0 hart.1) (enumerate_from number harts)
+
+-- those of all harts of these ranks, the first of which has this number
+abbrev pub ranks_going : List Symbol → List ℕ → ℕ → List RankState → List ℕ
+ranks_going symbols order r ranks =
+    flat_map (λ rank. harts_going symbols order rank.0 (rank_of rank.1) 0 (rank_of rank.1).harts) (enumerate_from r ranks)
+
+-- of a state: the ranks in order, and of each rank its harts in order
+abbrev pub going_text : ImageParts → List ℕ → ClusterState → List ℕ
+going_text image order state = ranks_going image.symbols order 0 state.ranks.items

@@ -1,5 +1,5 @@
--- Moves of ranks that don't rest, and marks of nodes, while a node is looked for that hangs.
-use Rattle.std.specs.Prelude.{ℕ, ◌≡◌, ◌<◌, ◌⊎◌, ◌↔◌, Bool, true, false, not, List, length, Option, Some, None, slice_get}
+-- Moves of ranks that don't rest, while a node is looked for that hangs.
+use Rattle.std.specs.Prelude.{ℕ, ◌≡◌, ◌<◌, ◌⊎◌, ◌↔◌, Bool, false, not, List, length, Option, Some, None}
 use Rattle.cl_explore.specs.Covering.{HasLead, HasLeadBy}
 use Rattle.cl_explore.specs.Ends.{Findings}
 use Rattle.cl_explore.specs.declared.leads.Lead.{Lead}
@@ -26,15 +26,3 @@ is_patient resting lead = not (noted_at resting lead.from lead.rank)
 abbrev pub ArePatient : Findings → List Lead → Type 0
 ArePatient found leads =
     (r i j : ℕ) → HasLeadBy leads r i j ↔ (HasLeadBy found.leads r i j × (rests_at found i r ≡ false))
-
--- ---- marks of nodes
-
--- marked as one that leads to an end, and not as one that does so by such moves
-abbrev pub IsMarkedAlone : List Bool → List Bool → ℕ → Type 0
-IsMarkedAlone all patient i = (slice_get all i ≡ Some true) × (slice_get patient i ≡ Some true → ⊥)
-
--- the node that is told is so; and none is, where none is told
-abbrev pub TellsMarkedAlone : List Bool → List Bool → Option ℕ → Type 0
-TellsMarkedAlone all patient None =
-    (i : ℕ) → i < length all → slice_get all i ≡ Some true → slice_get patient i ≡ Some true
-TellsMarkedAlone all patient (Some i) = IsMarkedAlone all patient i

@@ -24,3 +24,4 @@ pub mod Below
 pub mod Hanging
 pub mod Hangs
 pub mod InnerPatient
+pub mod InnerGoing

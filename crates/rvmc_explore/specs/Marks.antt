@@ -1,5 +1,5 @@
 -- Marks of nodes, while they are set.
-use Rattle.std.specs.Prelude.{ℕ, ◌<◌, ◌≤◌, ◌≡◌, Bool, true, not, List, length, slice_get, Some}
+use Rattle.std.specs.Prelude.{ℕ, ◌<◌, ◌≤◌, ◌≡◌, Bool, true, not, List, length, slice_get, Option, None, Some}
 use Rattle.std.specs.List.{count_by}
 use Rattle.cl_explore.specs.declared.leads.Lead.{Lead}
 
@@ -24,3 +24,15 @@ IsMarkedBefore leads place marks =
 -- and so of each move from this place on
 abbrev pub AreMarkedFrom : List Lead → ℕ → List Bool → Type 0
 AreMarkedFrom leads first marks = (place : ℕ) → first ≤ place → IsMarkedBefore leads place marks
+
+-- ---- nodes that are marked in one way alone
+
+-- marked among the ones, and not among the others
+abbrev pub IsMarkedAlone : List Bool → List Bool → ℕ → Type 0
+IsMarkedAlone all others i = (slice_get all i ≡ Some true) × (slice_get others i ≡ Some true → ⊥)
+
+-- the node that is told is so; and none is, where none is told
+abbrev pub TellsMarkedAlone : List Bool → List Bool → Option ℕ → Type 0
+TellsMarkedAlone all others None =
+    (i : ℕ) → i < length all → slice_get all i ≡ Some true → slice_get others i ≡ Some true
+TellsMarkedAlone all others (Some i) = IsMarkedAlone all others i

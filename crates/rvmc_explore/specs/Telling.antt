@@ -10,7 +10,7 @@ use Rattle.cl_explore.specs.declared.kept.KeptNode.{KeptNode}
 use Rattle.cl_explore.specs.declared.needs.Needs.{Needs}
 use Rattle.cl_explore.specs.declared.needs.Needs.TheVariants as known
 use Rattle.rvmc_report.specs.Report.{has_trapped, newline}
-use Rattle.rvmc_explore.specs.Endless.{SaysEndsAnyway, SaysNoneNeed, SaysNoneStuck, SaysUnending}
+use Rattle.rvmc_explore.specs.Endless.{SaysEndsAnyway, SaysGoing, SaysNoneNeed, SaysNoneStuck, SaysUnending}
 use Rattle.rvmc_explore.specs.Ends.{one_waits}
 use Rattle.rvmc_explore.specs.Hangs.{SaysHanging}
 use Rattle.rvmc_explore.specs.Outcomes.{AreApart, IsHeard, IsListOf, any_need}
@@ -84,20 +84,33 @@ abbrev pub none_other : Bool → List ℕ
 none_other true = codes "no other outcome"
 none_other false = codes "no other outcome with buffered sends"
 
+-- where ranks only wait for named ranks it doesn't matter how long messages take
+abbrev pub on_the_way : Bool → List ℕ
+on_the_way true = codes ", also with messages on their way"
+on_the_way false = []
+
 -- `no other outcome` only where no state is left whose moves weren't made
-abbrev pub verdict : ℕ → Bool → Option ℕ → ℕ → List ℕ
-verdict left may_wait long turns = if (left == 0) then none_other may_wait else want left long turns
+abbrev pub verdict : ℕ → Bool → Bool → Option ℕ → ℕ → List ℕ
+verdict left may_wait only_waits long turns =
+    if (left == 0) then none_other may_wait ++ on_the_way only_waits else want left long turns
 
 -- where some state leads to no end
 abbrev pub unending_line : Bool → List ℕ
 unending_line unending = if unending then codes "some runs go on for ever" ++ newline else []
 
--- where ranks that need buffers were looked for, and it isn't known whether there are any
-abbrev pub needs_line : Needs → List ℕ
-needs_line needs =
-    if is_unknown needs
-    then codes "not all: whether ranks need buffers is unknown; raise --states, or use --buffered" ++ newline
-    else []
+-- ranks that need buffers were looked for, and it isn't known whether there are any
+abbrev pub unknown_line : List ℕ
+unknown_line = codes "not all: whether ranks need buffers is unknown; raise --states, or use --buffered" ++ newline
+
+-- they weren't looked for, though nobody said that sends buffer
+abbrev pub unsought_line : List ℕ
+unsought_line = codes "whether ranks need buffers wasn't checked: they have several harts" ++ newline
+
+-- why it isn't known whether ranks need buffers, unless standard sends are to buffer
+abbrev pub needs_line : Bool → Needs → List ℕ
+needs_line buffered known.Unsought = if buffered then [] else unsought_line
+needs_line buffered known.Unknown = unknown_line
+needs_line buffered _ = []
 
 -- `2 outcomes of 20 states`
 abbrev pub counts_text : ℕ → ℕ → List ℕ
@@ -105,9 +118,9 @@ counts_text outcomes states =
     count_text outcomes (codes "outcome") ++ (codes " of " ++ count_text states (codes "state"))
 
 -- `2 outcomes of 20 states: no other outcome`
-abbrev pub last_line : ℕ → ℕ → ℕ → Bool → Option ℕ → ℕ → List ℕ
-last_line outcomes states left may_wait long turns =
-    counts_text outcomes states ++ (codes ": " ++ (verdict left may_wait long turns ++ newline))
+abbrev pub last_line : ℕ → ℕ → ℕ → Bool → Bool → Option ℕ → ℕ → List ℕ
+last_line outcomes states left may_wait only_waits long turns =
+    counts_text outcomes states ++ (codes ": " ++ (verdict left may_wait only_waits long turns ++ newline))
 
 -- ---- the status
 
@@ -167,12 +180,16 @@ pub record Tells (image : ImageParts) (order : List ℕ) (buffered : Bool) (stat
   pub ends_anyway : SaysEndsAnyway order (first_node image) (listed.found).left (listed.found).may_wait
   pub body : List ℕ
   pub lines : AddsOutcomes 1 told [] body
+  pub going : List ℕ
+  pub going_is : SaysGoing image order unending going
   pub spelled : text
       ≡ body
       ++ (ends_lines 1 told
+      ++ (going
       ++ (unending_line unending
-      ++ (needs_line listed.needs
-      ++ last_line (length told) (length (listed.found).kept) (listed.found).left (listed.found).may_wait long turns)))
+      ++ (needs_line buffered listed.needs
+      ++ last_line (length told) (length (listed.found).kept) (listed.found).left (listed.found).may_wait
+      (listed.found).only_waits long turns))))
   pub hanging : Bool
   pub hanging_is : SaysHanging image order told listed.needs unending hanging
   pub status_is : status ≡ findings_status order listed.found listed.needs hanging unending

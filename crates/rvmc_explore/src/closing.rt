@@ -1,9 +1,8 @@
 //! The last lines: whether the outcomes are all.
 
 ghost use Rattle.std.specs.Prelude.{◌≡◌, IfOk, length, string_bytes};
-ghost use Rattle.rvmc_explore.specs.Telling.{count_text, counts_text, last_line, needs_line, none_other, verdict, want};
+ghost use Rattle.rvmc_explore.specs.Telling.{count_text, counts_text, last_line, needs_line, none_other, on_the_way, verdict, want};
 
-use crate::judging::is_unknown;
 use cl_explore::{Exploration, Needs};
 use std::alloc::{AllocError, Global};
 
@@ -39,33 +38,51 @@ fn none_other(alloc: Global, may_wait: bool) -> Result<String, AllocError>
     }
 }
 
+/// And that it doesn't matter how long messages take, where ranks only wait for named ranks.
+fn on_the_way(only_waits: bool) -> &'static str
+    ensures { result.now ≡ on_the_way only_waits }
+{
+    if only_waits {
+        ", also with messages on their way"
+    } else {
+        ""
+    }
+}
+
 /// Whether all outcomes were told, or why not.
 fn verdict(
     alloc: Global,
     left: usize,
     may_wait: bool,
+    only_waits: bool,
     long: Option<u8>,
     turns: u64,
 ) -> Result<String, AllocError>
-    ensures { IfOk result (λ text. string_bytes text ≡ verdict left may_wait long turns) }
+    ensures { IfOk result (λ text. string_bytes text ≡ verdict left may_wait only_waits long turns) }
 {
     if left == 0 {
-        none_other(alloc, may_wait)
+        let none = none_other(alloc, may_wait)?;
+        let way = on_the_way(only_waits);
+        format!(in alloc; "{none}{way}")
     } else {
         want(alloc, left, long, turns)
     }
 }
 
-/// The line that says that it isn't known whether ranks need buffers, where they were looked for.
-pub(crate) fn needs_line(alloc: Global, needs: Needs) -> Result<String, AllocError>
-    ensures { IfOk result (λ text. string_bytes text ≡ needs_line needs) }
+/// The line that says why it isn't known whether ranks need buffers, unless standard sends are to buffer.
+pub(crate) fn needs_line(alloc: Global, needs: Needs, buffered: bool) -> Result<String, AllocError>
+    ensures { IfOk result (λ text. string_bytes text ≡ needs_line buffered needs) }
 {
-    if is_unknown(needs) {
-        format!(in alloc;
+    match needs {
+        Needs::Unsought if !buffered => {
+            format!(in alloc;
+                "whether ranks need buffers wasn't checked: they have several harts\n"
+            )
+        }
+        Needs::Unknown => format!(in alloc;
             "not all: whether ranks need buffers is unknown; raise --states, or use --buffered\n"
-        )
-    } else {
-        Ok(String::new(alloc))
+        ),
+        _ => Ok(String::new(alloc)),
     }
 }
 
@@ -86,9 +103,17 @@ pub(crate) fn last_line(
     turns: u64,
 ) -> Result<String, AllocError>
     ensures { IfOk result (λ text. string_bytes text
-        ≡ last_line outcomes (length found.now.nodes.items) found.now.left found.now.may_wait found.now.long turns) }
+        ≡ last_line outcomes (length found.now.nodes.items) found.now.left found.now.may_wait found.now.only_waits
+        found.now.long turns) }
 {
     let counts = counts(alloc, outcomes, found.nodes.len())?;
-    let verdict = verdict(alloc, found.left, found.may_wait, found.long, turns)?;
+    let verdict = verdict(
+        alloc,
+        found.left,
+        found.may_wait,
+        found.only_waits,
+        found.long,
+        turns,
+    )?;
     format!(in alloc; "{counts}: {verdict}\n")
 }

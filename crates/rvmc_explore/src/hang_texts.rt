@@ -64,19 +64,20 @@ fn put_going_place(
     put_place(text, symbols, hart.pc())
 }
 
-/// Adds the line of a rank whose first hart is this one and goes on.
-fn put_going(
+/// Adds the line of a rank's hart of this number, which goes on.
+pub(crate) fn put_going(
     alloc: Global,
     text: &mut Vec<u8>,
     symbols: &[Symbol],
     rank: usize,
     own: &RankState,
+    number: usize,
     hart: &Hart,
 ) -> Result<(), AllocError>
     ensures { OnOk result
-        (text.new.items ≡ text.old.items ++ going_line symbols.now rank (rank_of own.now) hart.now) }
+        (text.new.items ≡ text.old.items ++ going_line symbols.now rank (rank_of own.now) number hart.now) }
 {
-    let head = hart_head(alloc, rank, 0)?;
+    let head = hart_head(alloc, rank, number)?;
     text.extend_from_slice(head.as_bytes())?;
     text.extend_from_slice(b"goes on at ")?;
     put_going_place(alloc, text, symbols, own, hart)?;
@@ -112,7 +113,7 @@ fn put_awake(
         ++ awake_text image state.now number own.now (running (slice_get (rank_of own.now).harts 0))) }
 {
     match running(own) {
-        Some(hart) => put_going(alloc, text, symbols, number, own, &hart),
+        Some(hart) => put_going(alloc, text, symbols, number, own, 0, &hart),
         None => put_harts(
             alloc,
             text,

@@ -72,7 +72,7 @@ fn any_waits(nodes: &[KeptNode], order: &[u8], ends: &[usize]) -> bool
 }
 
 /// Whether ranks that need buffers were looked for, and it isn't known whether there are any.
-pub(crate) fn is_unknown(needs: Needs) -> bool
+fn is_unknown(needs: Needs) -> bool
     ensures { result ≡ is_unknown needs }
 {
     matches!(needs, Needs::Unknown)

@@ -2,17 +2,20 @@
 //! first message by which one differs from the first one, and whether these are all; and a record of one.
 #![tactic(auto)]
 
+mod alone;
 mod asked;
 mod closing;
 mod counting;
 mod differences;
 mod ends;
+mod going;
 mod hang_texts;
 mod hangs;
 mod heads;
 mod hearing;
 mod judging;
 pub mod laws;
+mod marks;
 mod needs;
 mod outcomes;
 mod patient;

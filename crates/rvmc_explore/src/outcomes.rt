@@ -8,9 +8,9 @@ ghost use Rattle.rvmc_explore.specs.Outcomes.{AreTold, HasBody, IsEndBody, IsNee
 ghost use Rattle.rvmc_explore.specs.Searched.{IsExplored, IsWithin};
 
 use crate::ends::put_end;
+use crate::marks::{is_marked, leading_to};
 use crate::needs::put_need;
 use crate::telling::state_at;
-use crate::unending::{is_marked, leading_to};
 use cl_explore::{Company, Exploration, KeptNode, Runs, steps_to};
 use cl_machine::Step;
 use rv_image_types::Image;

@@ -14,13 +14,14 @@ ghost use Rattle.rvmc_explore.specs.Telling.{AddsOutcomes, IsBegun, Tells};
 use crate::asked::Asked;
 use crate::closing::{last_line, needs_line};
 use crate::counting::put_counts;
+use crate::going::put_goings;
 use crate::hangs::tell_hang;
 use crate::hearing::Sends;
 use crate::judging::search_status;
 use crate::outcomes::{Outcome, tell};
 use crate::teller::{Outset, Teller, put};
 use crate::telling::{Told, put_told};
-use crate::unending::{is_unending, unending_line};
+use crate::unending::{endless_in, unending_line};
 use cl_explore::{Course, Exploration, explore};
 use cl_moves::MoveFault;
 use rv_image_types::Image;
@@ -78,7 +79,8 @@ fn search_telling<K: Outset + Sends, O: Write, E: Write>(
 }
 
 /// What is told behind what was told as it was found, and the status of the search: ends that weren't told yet, ranks that are
-/// stuck, how many ends look like an outcome, whether some runs go on for ever, and whether these are all.
+/// stuck, how many ends look like an outcome, where harts go on that never end, why it isn't known whether ranks need buffers, and
+/// whether these are all.
 fn rest_of(
     alloc: Global,
     image: &Image,
@@ -100,14 +102,17 @@ fn rest_of(
     let _parts = image.parts();
     let before = heard.len();
     let mut told = tell(alloc, image, asked.order, found, heard)?;
-    let unending = is_unending(alloc, found)?;
+    let endless = endless_in(alloc, found)?;
+    let unending = endless.is_some();
     let hanging = tell_hang(alloc, image, found, &mut told, unending)?;
     let mut text = Vec::new(alloc);
     put_told(alloc, &mut text, image, told.as_slice(), before)?;
     put_counts(alloc, &mut text, told.as_slice())?;
+    let nodes = found.nodes.as_slice();
+    put_goings(alloc, &mut text, image, asked.order, nodes, endless)?;
     let line = unending_line(alloc, unending)?;
     text.extend_from_slice(line.as_bytes())?;
-    let unknown = needs_line(alloc, found.needs)?;
+    let unknown = needs_line(alloc, found.needs, asked.buffered)?;
     text.extend_from_slice(unknown.as_bytes())?;
     let last = last_line(alloc, found, told.len(), asked.turns)?;
     text.extend_from_slice(last.as_bytes())?;
@@ -119,11 +124,11 @@ fn rest_of(
 /// for ranks that need buffers how they are held up. Once the search is over it writes the others: for ranks that are stuck while
 /// others run on, what they wait for; for a state from which runs hang if sends wait, how each rank stands there. Each begins
 /// with the first message by which it differs from outcome 1. Behind them stands how many ends look like an outcome, if two or
-/// more do, whether some runs go on for ever, whether it is unknown if ranks need buffers, and in the last line whether the list
-/// is complete, or is so with buffered sends alone. No two outcomes have the same text. The status is 4 if the list isn't
-/// complete, else 3 if a hart trapped at an end, else 7 if a hart that takes turns waits at one, some ranks are stuck, ranks need
-/// buffers, or runs hang if sends wait, else 8 if some runs go on for ever, else 0. If asked for, lines on `err` say how far the
-/// search came.
+/// more do; where harts go on in a state from which no run ends, if there is one, and that some runs go on for ever; why it isn't
+/// known whether ranks need buffers; and in the last line whether the list is complete, or is so with buffered sends alone. No
+/// two outcomes have the same text. The status is 4 if the list isn't complete, else 3 if a hart trapped at an end, else 7 if a
+/// hart that takes turns waits at one, some ranks are stuck, ranks need buffers, or runs hang if sends wait, else 8 if some runs
+/// go on for ever, else 0. If asked for, lines on `err` say how far the search came.
 ///
 /// Others run on where a rank that isn't stuck can go on, and no end was found from there. If no state is left there is none, and
 /// they run on for ever.

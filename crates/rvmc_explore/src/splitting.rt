@@ -9,7 +9,7 @@ ghost use Rattle.rvmc_explore.specs.There.{AreInside};
 ghost use Rattle.cl_lines.specs.Telling.{TellsProgress};
 
 use crate::asked::Asked;
-use crate::unending::leading_to;
+use crate::marks::leading_to;
 use cl_explore::{Course, Exploration, split as searched_apart};
 use cl_moves::MoveFault;
 use rv_image::write_image;

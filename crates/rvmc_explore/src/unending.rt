@@ -1,129 +1,46 @@
 //! Whether some runs go on for ever.
 
-ghost use Rattle.std.specs.Prelude.{◌≡◌, ◌⊎◌, ◌<◌, ℕ, List, IfOk, IsFalse, IsTrue, Some, false, length, slice_get, string_bytes, true};
+ghost use Rattle.std.specs.Prelude.{◌≡◌, IfNone, IfOk, false, string_bytes};
 ghost use Rattle.cl_explore.specs.Ends.{findings};
-ghost use Rattle.rvmc_explore.specs.Endless.{AreComplete, SaysUnendingOf};
+ghost use Rattle.rvmc_explore.specs.Endless.{SaysUnendingOf};
 ghost use Rattle.rvmc_explore.specs.Hanging.{EachGoes};
-ghost use Rattle.rvmc_explore.specs.Marks.{AreMarkedFrom, HaveStayed, IsMarkedBefore, IsMarkedIfThere, unmarked};
-ghost use Rattle.rvmc_explore.specs.Searched.{AreSound};
+ghost use Rattle.rvmc_explore.specs.InnerGoing.{TellsEndless};
 ghost use Rattle.rvmc_explore.specs.Telling.{unending_line};
 
-use cl_explore::{Exploration, Lead};
+use crate::alone::one_alone;
+use crate::marks::{all_marked, leading_to};
+use cl_explore::Exploration;
 use std::alloc::{AllocError, Global};
 
-/// Marks the node of this number, if there is a mark for it.
-pub(crate) fn mark(marks: &mut [bool], node: usize)
-    ensures only { (i : ℕ) → slice_get marks.new i ≡ Some true → (slice_get marks.old i ≡ Some true) ⊎ (node ≡ i) }
-    ensures now { IsMarkedIfThere marks.new node }
-    ensures stay { HaveStayed marks.old marks.new }
+/// A node that leads to no end, if there is one: from there a run goes on for ever, however it goes. It is the last one of a walk
+/// from the first such node by moves to nodes that weren't passed, so that ranks that end have ended there as far as may be. None
+/// where not all moves were made, since then it isn't known. The only error is want of memory.
+pub(crate) fn endless_in(alloc: Global, found: &Exploration) -> Result<Option<usize>, AllocError>
+    ensures says { IfOk result (TellsEndless (findings found.now)) }
+    ensures each { IfOk result (λ node. IfNone node (found.now.left ≡ 0 → EachGoes (findings found.now))) }
 {
-    if node < marks.len() {
-        marks[node] = true;
+    if found.left > 0 {
+        return Ok(None);
     }
+    let count = found.nodes.len();
+    let leads = found.leads.as_slice();
+    let ends = found.ends.as_slice();
+    let marks = leading_to(alloc, count, leads, ends)?;
+    let all = all_marked(alloc, count)?;
+    let marked = marks.as_slice();
+    let every = all.as_slice();
+    let node = one_alone(alloc, leads, every, marked)?;
+    Ok(node)
 }
 
-/// A mark for each of so many nodes, set at these.
-fn marked_at(alloc: Global, count: usize, nodes: &[usize]) -> Result<Vec<bool>, AllocError>
-    ensures many { IfOk result (λ marks. length marks.items ≡ count) }
-    ensures only { IfOk result (λ marks. (i : ℕ) → slice_get marks.items i ≡ Some true
-        → (k : ℕ) × (slice_get nodes.now k ≡ Some i)) }
-    ensures all { IfOk result (λ marks. (k i : ℕ) → slice_get nodes.now k ≡ Some i → IsMarkedIfThere marks.items i) }
-{
-    let mut marks = vec![in alloc; false; count]?;
-    for place in 0..nodes.len() {
-        mark(marks.as_mut_slice(), nodes[place]);
-    }
-    Ok(marks)
-}
-
-/// Whether the node of this number is marked.
-pub(crate) fn is_marked(marks: &[bool], node: usize) -> bool
-    ensures yes { IsTrue result → slice_get marks.now node ≡ Some true }
-    ensures no { IsFalse result → slice_get marks.now node ≡ Some true → ⊥ }
-{
-    if node >= marks.len() {
-        return false;
-    }
-    marks[node]
-}
-
-/// Marks the node from which the move at this place led, if the one is marked to which it led. Answers whether it wasn't marked before.
-fn mark_before(marks: &mut [bool], leads: &[Lead], place: usize) -> bool
-    requires { place < length leads.now }
-    ensures sound { (targets : List ℕ) → AreSound leads.now targets marks.old → AreSound leads.now targets marks.new }
-    ensures stay { HaveStayed marks.old marks.new }
-    ensures more { IsTrue result → unmarked marks.new < unmarked marks.old }
-    ensures done { IsFalse result → (marks.new ≡ marks.old) × IsMarkedBefore leads.now place marks.new }
-{
-    let lead = &leads[place];
-    if lead.from >= marks.len() || !is_marked(marks, lead.to) || is_marked(marks, lead.from) {
-        return false;
-    }
-    marks[lead.from] = true;
-    true
-}
-
-/// The same of each move, the last one first: most moves lead to later nodes. Answers whether one was marked.
-fn mark_all(marks: &mut [bool], leads: &[Lead]) -> bool
-    ensures sound { (targets : List ℕ) → AreSound leads.now targets marks.old → AreSound leads.now targets marks.new }
-    ensures stay { HaveStayed marks.old marks.new }
-    ensures more { IsTrue result → unmarked marks.new < unmarked marks.old }
-    ensures done { IsFalse result → AreMarkedFrom leads.now 0 marks.new }
-{
-    let mut more = false;
-    for place in 0..leads.len() {
-        if mark_before(marks, leads, leads.len() - 1 - place) {
-            more = true;
-        }
-    }
-    more
-}
-
-/// Of so many nodes, a mark for each that leads by these moves to one of the targets, and for no other.
-pub(crate) fn leading_to(
-    alloc: Global,
-    count: usize,
-    leads: &[Lead],
-    targets: &[usize],
-) -> Result<Vec<bool>, AllocError>
-    ensures many { IfOk result (λ marks. length marks.items ≡ count) }
-    ensures sound { IfOk result (λ marks. AreSound leads.now targets.now marks.items) }
-    ensures complete { IfOk result (λ marks. AreComplete leads.now targets.now marks.items) }
-{
-    let mut marks = marked_at(alloc, count, targets)?;
-    'rest: loop {
-        if !mark_all(marks.as_mut_slice(), leads) {
-            return Ok(marks);
-        }
-    }
-}
-
-/// Whether one isn't marked.
-fn has_unmarked(marks: &[bool]) -> bool
-    ensures some { IsTrue result → (i : ℕ) × (slice_get marks.now i ≡ Some false) }
-    ensures none { IsFalse result → (i : ℕ) → i < length marks.now → slice_get marks.now i ≡ Some true }
-{
-    for place in 0..marks.len() {
-        if !marks[place] {
-            return true;
-        }
-    }
-    false
-}
-
-/// Whether some node leads to no end: from there a run goes on for ever, however it goes. False where not all moves were
-/// made, since then it isn't known. The only error is want of memory.
+/// Whether some node leads to no end. False where not all moves were made, since then it isn't known. The only error is want of
+/// memory.
 pub(crate) fn is_unending(alloc: Global, found: &Exploration) -> Result<bool, AllocError>
     ensures says { IfOk result (SaysUnendingOf (findings found.now)) }
     ensures each { IfOk result (λ unending. unending ≡ false → found.now.left ≡ 0 → EachGoes (findings found.now)) }
 {
-    if found.left > 0 {
-        return Ok(false);
-    }
-    let leads = found.leads.as_slice();
-    let ends = found.ends.as_slice();
-    let marks = leading_to(alloc, found.nodes.len(), leads, ends)?;
-    Ok(has_unmarked(marks.as_slice()))
+    let node = endless_in(alloc, found)?;
+    Ok(node.is_some())
 }
 
 /// The line that says so.

@@ -1,5 +1,5 @@
 -- Lines of hints, and their beginnings.
-use Rattle.std.proofs.Common.{◌≡◌, ◌∙◌, ◌<◌, ◌^◌, ◌∷◌, min, ℕ, List, [], ◌++◌, Option, Some, None, ap, append-nil, arith, codes, length, refl, sym, take}
+use Rattle.std.proofs.Common.{◌≡◌, ◌∙◌, ◌<◌, ◌^◌, ◌∷◌, min, ℕ, List, [], ◌++◌, Option, Some, None, ap, append-nil, arith, length, refl, subst, sym, take}
 use Rattle.std.specs.Prelude.{◌==◌}
 use Rattle.std.specs.Fmt.{decimal}
 use Rattle.std.specs.Io.{StartsWith}
@@ -11,6 +11,7 @@ use Rattle.std.proofs.lemmas.List.{length-take, take_min}
 use Rattle.std.proofs.lemmas.List.Folds.{list_any-append}
 use Rattle.std.proofs.lemmas.Str.Parse.{digit_from_value}
 use Rattle.rvmc_hints.specs.HintLines.{AppendsHint, IsOneLine, hint_line}
+use Rattle.rvmc_hints.specs.Runs.{AppendsLine}
 use Rattle.cl_lines.specs.Beginnings.{AppendsBeginning}
 
 digits_are_one_line : (ds : List ℕ) → AllDigits 10 ds → IsOneLine ds
@@ -40,6 +41,15 @@ hint_from_beginning text line old new one_line is (count, appends) =
 nothing_appended : (old : Option (List ℕ)) → Appends old old []
 nothing_appended None = tt
 nothing_appended (Some xs) = sym (append-nil xs)
+
+-- bytes that are the line
+pub line_from_beginning : (text line : List ℕ) (old new : Option (List ℕ)) → line ≡ hint_line text
+    → AppendsBeginning line old new → AppendsLine text old new
+line_from_beginning text line old new is begins = subst (λ (l : List ℕ). AppendsBeginning l old new) is begins
+
+-- nothing of a line
+pub nothing_told : (text : List ℕ) (old : Option (List ℕ)) → AppendsLine text old old
+nothing_told text old = (0, nothing_appended old)
 
 -- nothing at all
 pub no_hint : (old : Option (List ℕ)) → AppendsHint old old

@@ -1,2 +1,3 @@
 pub mod HintLines
 pub mod Beginnings
+pub mod Shown

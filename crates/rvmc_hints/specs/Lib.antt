@@ -1,8 +1,12 @@
 pub mod Seen
 pub mod Content
+pub mod Texts
 pub mod Near
 pub mod Plans
 pub mod Words
+pub mod Lines
+pub mod Records
+pub mod Sources
 pub mod Rows
 pub mod HintLines
 pub mod Runs

@@ -1,6 +1,6 @@
 -- A plan or an order that names what isn't there, or that misses a rank.
-use Rattle.std.specs.Prelude.{ℕ, zero, suc, ◌==◌, ◌||◌, ◌&&◌, nat_le, not, if◌then◌else◌, Bool, true, false, List, [], ◌∷◌}
-use Rattle.std.specs.Prelude.{Option, None, Some}
+use Rattle.std.specs.Prelude.{ℕ, zero, suc, ◌==◌, ◌||◌, ◌&&◌, nat_le, not, if◌then◌else◌, Bool, true, false}
+use Rattle.std.specs.Prelude.{List, [], ◌∷◌, Option, None, Some}
 use Rattle.rvmc_hints.specs.declared.hint.Hint.{Hint}
 use Rattle.rvmc_hints.specs.declared.hint.Hint.TheVariants as hint
 

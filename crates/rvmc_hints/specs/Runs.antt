@@ -1,8 +1,11 @@
 -- What hints say of a run that is as it should be, and how their lines are written.
 use Rattle.std.specs.Prelude.{ℕ, ◌*◌, min, nat_le, if◌then◌else◌, List, ◌++◌, Option, None, Some, codes}
 use Rattle.std.specs.Fmt.{decimal}
+use Rattle.cl_lines.specs.Beginnings.{AppendsBeginning}
+use Rattle.rvmc_hints.specs.HintLines.{hint_line}
 use Rattle.rvmc_hints.specs.declared.runs.RunHint.{RunHint}
-use Rattle.rvmc_hints.specs.declared.runs.RunHint.TheVariants.{LongRecord, Spent, SpentAll, States, StatesAll, Turns, Waits, WaitsBelow}
+use Rattle.rvmc_hints.specs.declared.runs.RunHint.TheVariants.{LongRecord, Spent, SpentAll, States, StatesAll, Turns}
+use Rattle.rvmc_hints.specs.declared.runs.RunHint.TheVariants.{Waits, WaitsBelow}
 use Rattle.rvmc_hints.specs.declared.runs.Runner.{Runner}
 use Rattle.rvmc_hints.specs.declared.runs.Runner.TheVariants.{One, Run}
 
@@ -34,3 +37,7 @@ run_hint_text (States states) =
 run_hint_text StatesAll = codes "states are left; rvmc explore --split 64 makes parts to search one by one"
 run_hint_text (Turns turns) =
     codes "states are left; rvmc explore --turns " ++ (decimal turns ++ codes " goes further")
+
+-- what was there stays, and behind it stands as much of the line of such a text as could be written
+abbrev pub AppendsLine : List ℕ → Option (List ℕ) → Option (List ℕ) → Type 0
+AppendsLine text old new = AppendsBeginning (hint_line text) old new

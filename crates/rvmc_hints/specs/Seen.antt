@@ -1,5 +1,6 @@
 -- What stands in an input, as its bytes show.
-use Rattle.std.specs.Prelude.{ℕ, ◌==◌, ◌||◌, ◌&&◌, nat_le, nat_eq, if◌then◌else◌, Bool, false, List, [], ◌∷◌, length, codes}
+use Rattle.std.specs.Prelude.{ℕ, ◌==◌, ◌||◌, ◌&&◌, nat_le, nat_eq, if◌then◌else◌, Bool, false, List, [], ◌∷◌}
+use Rattle.std.specs.Prelude.{length, codes}
 use Rattle.std.specs.List.{list_all, starts_with}
 use Rattle.rvmc_hints.specs.declared.seen.Seen.{Seen}
 use Rattle.rvmc_hints.specs.declared.seen.Seen.TheVariants.{C, Elf, Image, Nothing, Other, Record, Text}

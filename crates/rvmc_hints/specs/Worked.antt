@@ -1,10 +1,13 @@
--- Hints, by rows: what stands in an input, plans, names and words.
+-- Hints, by rows: what stands in an input, plans, names, words and lines.
 use Rattle.std.specs.Prelude.{◌≡◌, ◌++◌, true, false, [], ◌∷◌, None, Some, codes, refl}
 use Rattle.cl_calls.specs.Names.{call_number}
 use Rattle.rvmc_hints.specs.Content.{content_in}
+use Rattle.rvmc_hints.specs.Lines.{begins_nothing, begins_with_colon}
 use Rattle.rvmc_hints.specs.Near.{is_near}
 use Rattle.rvmc_hints.specs.Plans.{plans_in}
+use Rattle.rvmc_hints.specs.Records.{short_in}
 use Rattle.rvmc_hints.specs.Seen.{seen_in}
+use Rattle.rvmc_hints.specs.Sources.{here_for}
 use Rattle.rvmc_hints.specs.Words.{command_near, is_file_name, is_rank_option}
 use Rattle.rvmc_hints.specs.Runs.{next_bound}
 use Rattle.rvmc_hints.specs.declared.hint.Hint.TheVariants as hint
@@ -40,14 +43,16 @@ pub nothing_for_check : content_in wanted.Record false (seen_in []) ≡ Some (hi
 nothing_for_check = refl
 
 -- `run < farm.c` and `rvmc < farm.c`, whatever stands before the line that tells
-pub c_for_run : content_in wanted.Image false (seen_in (codes "// a farm" ++ 10 ∷ codes "#include <mpi.h>")) ≡ Some hint.C
+pub c_for_run
+    : content_in wanted.Image false (seen_in (codes "// a farm" ++ 10 ∷ codes "#include <mpi.h>")) ≡ Some hint.C
 c_for_run = refl
 
 pub c_for_rvmc : content_in wanted.Source false (seen_in (codes "#include <mpi.h>")) ≡ Some hint.C
 c_for_rvmc = refl
 
 -- a source of the assembler, to which that is a comment
-pub no_c : content_in wanted.Image true (seen_in (codes "#include it" ++ 10 ∷ codes "nop")) ≡ Some (hint.Source wanted.Image)
+pub no_c
+    : content_in wanted.Image true (seen_in (codes "#include it" ++ 10 ∷ codes "nop")) ≡ Some (hint.Source wanted.Image)
 no_c = refl
 
 -- `run < farm.elf`
@@ -116,3 +121,23 @@ largest_budget = refl
 
 pub no_larger_budget : next_bound 16777216 ≡ None
 no_larger_budget = refl
+
+-- words of a source: what GNU as calls otherwise, what begins nothing, and what makes a name a label
+pub call_is_jal : here_for (codes "call") ≡ Some (codes "jal")
+call_is_jal = refl
+
+pub percent_begins_nothing : begins_nothing 37 ≡ true
+percent_begins_nothing = refl
+
+pub a_blank_is_a_sign : begins_nothing 32 ≡ false
+a_blank_is_a_sign = refl
+
+pub a_label : begins_with_colon (codes " : nop") ≡ true
+a_label = refl
+
+pub no_label : begins_with_colon (codes " a, b:") ≡ false
+no_label = refl
+
+-- a record of which only the first four bytes are there
+pub a_short_record : short_in (codes "RVMR") ≡ Some (hint.Least 20)
+a_short_record = refl

@@ -1,5 +1,12 @@
 //! What a person can be told behind a fault's line.
 
+ghost use Rattle.std.specs.Prelude.{◌≡◌, Some, option_map};
+ghost use Rattle.std.specs.Fmt.{WritesOnOk};
+ghost use Rattle.rvmc_hints.specs.Texts.{advice_text, at_text, awaited_text, call_text, character_text, foreign_text};
+ghost use Rattle.rvmc_hints.specs.Texts.{harts_text, hint_text, kind_text, misplaced_text, missing_text, near_text};
+ghost use Rattle.rvmc_hints.specs.Texts.{next_text, no_line_text, ranks_text, remedy_text, shown_text, takes_text};
+ghost use Rattle.rvmc_hints.specs.Texts.{twice_text, unknown_text, wanted_text, wrong_text};
+
 use std::fmt;
 
 /// What a command takes.
@@ -161,6 +168,8 @@ pub enum Place {
 struct Shown<'a>(&'a [u8]);
 
 impl fmt::Display for Shown<'_> {
+    ghost output = { λ shown. Some (shown_text shown.0.now) };
+
     fn fmt<W: fmt::Write>(&self, f: &mut fmt::Formatter<W>) -> fmt::Result {
         match str::from_utf8(self.0) {
             Ok(text) => write!(f, "{text}"),
@@ -170,6 +179,8 @@ impl fmt::Display for Shown<'_> {
 }
 
 impl fmt::Display for Wanted {
+    ghost output = { λ wanted. Some (wanted_text wanted) };
+
     fn fmt<W: fmt::Write>(&self, f: &mut fmt::Formatter<W>) -> fmt::Result {
         match self {
             Wanted::Source => write!(f, "a source"),
@@ -183,6 +194,8 @@ impl fmt::Display for Wanted {
 }
 
 impl fmt::Display for Kind {
+    ghost output = { λ kind. Some (kind_text kind) };
+
     fn fmt<W: fmt::Write>(&self, f: &mut fmt::Formatter<W>) -> fmt::Result {
         match self {
             Kind::Instruction => write!(f, "instructions"),
@@ -192,7 +205,9 @@ impl fmt::Display for Kind {
 }
 
 /// What is wrong with a word that isn't of the kind that its place asks for.
-fn misplaced(kind: Place) -> &'static str {
+fn misplaced(kind: Place) -> &'static str
+    ensures { result.now ≡ misplaced_text kind }
+{
     match kind {
         Place::Register => "is no register",
         Place::Number => "is no number",
@@ -203,7 +218,9 @@ fn misplaced(kind: Place) -> &'static str {
 }
 
 /// What is to be done with a source where something else is wanted.
-fn remedy(wanted: Wanted) -> &'static str {
+fn remedy(wanted: Wanted) -> &'static str
+    ensures { result.now ≡ remedy_text wanted }
+{
     match wanted {
         Wanted::Source => "rvmc reads it",
         Wanted::Image => "use --source",
@@ -215,7 +232,9 @@ fn remedy(wanted: Wanted) -> &'static str {
 }
 
 /// How a text that may be a source is to be given.
-fn advice(wanted: Wanted) -> &'static str {
+fn advice(wanted: Wanted) -> &'static str
+    ensures { result.now ≡ advice_text wanted }
+{
     match wanted {
         Wanted::Source => "rvmc reads sources",
         Wanted::Image => "a source wants --source",
@@ -227,7 +246,9 @@ fn advice(wanted: Wanted) -> &'static str {
 }
 
 /// How ranks have to be listed.
-fn put_ranks<W: fmt::Write>(f: &mut fmt::Formatter<W>, ranks: u8) -> fmt::Result {
+fn put_ranks<W: fmt::Write>(f: &mut fmt::Formatter<W>, ranks: u8) -> fmt::Result
+    ensures { WritesOnOk W.write_str_gives f.old result (ranks_text ranks) f.new }
+{
     match ranks {
         0 | 1 => write!(f, "1 rank: --order must name 0 and no other"),
         _ => write!(
@@ -239,7 +260,9 @@ fn put_ranks<W: fmt::Write>(f: &mut fmt::Formatter<W>, ranks: u8) -> fmt::Result
 }
 
 /// How harts have to be listed.
-fn put_harts<W: fmt::Write>(f: &mut fmt::Formatter<W>, harts: u8) -> fmt::Result {
+fn put_harts<W: fmt::Write>(f: &mut fmt::Formatter<W>, harts: u8) -> fmt::Result
+    ensures { WritesOnOk W.write_str_gives f.old result (harts_text harts) f.new }
+{
     match harts {
         0 | 1 => write!(f, "1 hart: --plan must name 0 and no other"),
         _ => write!(
@@ -251,7 +274,9 @@ fn put_harts<W: fmt::Write>(f: &mut fmt::Formatter<W>, harts: u8) -> fmt::Result
 }
 
 /// What is waited for on standard input.
-fn put_awaited<W: fmt::Write>(f: &mut fmt::Formatter<W>, awaited: Awaited) -> fmt::Result {
+fn put_awaited<W: fmt::Write>(f: &mut fmt::Formatter<W>, awaited: Awaited) -> fmt::Result
+    ensures { WritesOnOk W.write_str_gives f.old result (awaited_text awaited) f.new }
+{
     match awaited {
         Awaited::Whole(wanted) => write!(
             f,
@@ -273,7 +298,10 @@ fn put_unknown<W: fmt::Write>(
     word: &[u8],
     kind: Kind,
     near: Option<&str>,
-) -> fmt::Result {
+) -> fmt::Result
+    ensures { WritesOnOk W.write_str_gives f.old result
+        (unknown_text word.now kind (option_map (λ name. name.now) near.entry)) f.new }
+{
     let word = Shown(word);
     match near {
         Some(near) => write!(
@@ -288,12 +316,16 @@ fn put_unknown<W: fmt::Write>(
 }
 
 /// A mnemonic of other assemblers.
-fn put_foreign<W: fmt::Write>(f: &mut fmt::Formatter<W>, word: &[u8], here: &str) -> fmt::Result {
+fn put_foreign<W: fmt::Write>(f: &mut fmt::Formatter<W>, word: &[u8], here: &str) -> fmt::Result
+    ensures { WritesOnOk W.write_str_gives f.old result (foreign_text word.now here.now) f.new }
+{
     write!(f, "{} isn't known here: {here} does the same", Shown(word))
 }
 
 /// The name of a call where a number is wanted.
-fn put_call<W: fmt::Write>(f: &mut fmt::Formatter<W>, word: &[u8], number: u64) -> fmt::Result {
+fn put_call<W: fmt::Write>(f: &mut fmt::Formatter<W>, word: &[u8], number: u64) -> fmt::Result
+    ensures { WritesOnOk W.write_str_gives f.old result (call_text word.now number) f.new }
+{
     write!(f, "{} is no number: it is call {number}", Shown(word))
 }
 
@@ -304,7 +336,9 @@ fn put_wrong<W: fmt::Write>(
     wrong: &str,
     name: &str,
     operands: &str,
-) -> fmt::Result {
+) -> fmt::Result
+    ensures { WritesOnOk W.write_str_gives f.old result (wrong_text word.now wrong.now name.now operands.now) f.new }
+{
     write!(f, "{} {wrong}: {name} takes {operands}", Shown(word))
 }
 
@@ -314,12 +348,16 @@ fn put_at<W: fmt::Write>(
     words: &[u8],
     name: &str,
     operands: &str,
-) -> fmt::Result {
+) -> fmt::Result
+    ensures { WritesOnOk W.write_str_gives f.old result (at_text words.now name.now operands.now) f.new }
+{
     write!(f, "at `{}`: {name} takes {operands}", Shown(words))
 }
 
 /// What a mnemonic or a directive takes.
-fn put_takes<W: fmt::Write>(f: &mut fmt::Formatter<W>, name: &str, operands: &str) -> fmt::Result {
+fn put_takes<W: fmt::Write>(f: &mut fmt::Formatter<W>, name: &str, operands: &str) -> fmt::Result
+    ensures { WritesOnOk W.write_str_gives f.old result (takes_text name.now operands.now) f.new }
+{
     write!(f, "{name} takes {operands}")
 }
 
@@ -329,17 +367,24 @@ fn put_missing<W: fmt::Write>(
     lacks: &str,
     word: &[u8],
     near: Option<&[u8]>,
-) -> fmt::Result {
+) -> fmt::Result
+    ensures { WritesOnOk W.write_str_gives f.old result
+        (missing_text lacks.now word.now (option_map (λ name. name.now) near.entry)) f.new }
+{
     write!(f, "{lacks} {}", Shown(word))?;
     put_near(f, near)
 }
 
 /// A label that an earlier line defines.
-fn put_twice<W: fmt::Write>(f: &mut fmt::Formatter<W>, word: &[u8], line: u64) -> fmt::Result {
+fn put_twice<W: fmt::Write>(f: &mut fmt::Formatter<W>, word: &[u8], line: u64) -> fmt::Result
+    ensures { WritesOnOk W.write_str_gives f.old result (twice_text word.now line) f.new }
+{
     write!(f, "line {line} defines {} already", Shown(word))
 }
 
 impl fmt::Display for Hint<'_> {
+    ghost output = { λ hint. Some (hint_text hint) };
+
     fn fmt<W: fmt::Write>(&self, f: &mut fmt::Formatter<W>) -> fmt::Result {
         match *self {
             Hint::Nothing(wanted) => write!(f, "the input is empty: {wanted} is wanted"),
@@ -402,7 +447,9 @@ impl fmt::Display for Hint<'_> {
 }
 
 /// A character of the input, which may be other than ASCII.
-fn put_character<W: fmt::Write>(f: &mut fmt::Formatter<W>, byte: u8) -> fmt::Result {
+fn put_character<W: fmt::Write>(f: &mut fmt::Formatter<W>, byte: u8) -> fmt::Result
+    ensures { WritesOnOk W.write_str_gives f.old result (character_text byte) f.new }
+{
     match byte {
         33..=126 => write!(f, "nothing begins with {}", char::from(byte)),
         _ => write!(f, "nothing begins with the byte {byte}"),
@@ -415,8 +462,23 @@ fn put_no_line<W: fmt::Write>(
     file: &str,
     number: &str,
     next: Option<&[u8]>,
-) -> fmt::Result {
+) -> fmt::Result
+    ensures { WritesOnOk W.write_str_gives f.old result
+        (no_line_text file.now number.now (option_map (λ line. line.now) next.entry)) f.new }
+{
     write!(f, "the image has no code of {file}:{number}")?;
+    put_next(f, file, next)
+}
+
+/// The next line with code, if there is one.
+fn put_next<W: fmt::Write>(
+    f: &mut fmt::Formatter<W>,
+    file: &str,
+    next: Option<&[u8]>,
+) -> fmt::Result
+    ensures { WritesOnOk W.write_str_gives f.old result
+        (next_text file.now (option_map (λ line. line.now) next.entry)) f.new }
+{
     match next {
         Some(next) => write!(f, "; the next line with code is {file}:{}", Shown(next)),
         None => Ok(()),
@@ -424,7 +486,9 @@ fn put_no_line<W: fmt::Write>(
 }
 
 /// The name that was meant, perhaps.
-fn put_near<W: fmt::Write>(f: &mut fmt::Formatter<W>, near: Option<&[u8]>) -> fmt::Result {
+fn put_near<W: fmt::Write>(f: &mut fmt::Formatter<W>, near: Option<&[u8]>) -> fmt::Result
+    ensures { WritesOnOk W.write_str_gives f.old result (near_text (option_map (λ name. name.now) near.entry)) f.new }
+{
     match near {
         Some(near) => write!(f, "; is {} meant?", Shown(near)),
         None => Ok(()),

@@ -1,5 +1,9 @@
 //! The labels of a source.
 
+ghost use Rattle.std.specs.Prelude.{◌≡◌, IfSome, true};
+ghost use Rattle.rvmc_hints.specs.Near.{is_near};
+ghost use Rattle.rvmc_hints.specs.Sources.{IsMissingHint, IsTwiceHint};
+
 use crate::hint::Hint;
 use crate::lines::{first_line, first_word, is_label, is_number, statement};
 use crate::near::is_near;
@@ -35,7 +39,9 @@ pub fn first_definition(bytes: &[u8], name: &[u8]) -> Option<u64> {
 }
 
 /// The first label of a line that is near to a name.
-fn near_in_line<'a>(line: &'a [u8], name: &[u8]) -> Option<&'a [u8]> {
+fn near_in_line<'a>(line: &'a [u8], name: &[u8]) -> Option<&'a [u8]>
+    ensures { IfSome result (λ near. is_near near.now name.now ≡ true) }
+{
     let mut rest = line;
     while let Some(word) = first_word(rest) {
         if !is_label(&word) {
@@ -50,7 +56,9 @@ fn near_in_line<'a>(line: &'a [u8], name: &[u8]) -> Option<&'a [u8]> {
 }
 
 /// The first label of a source that is near to a name.
-fn near_label<'a>(bytes: &'a [u8], name: &[u8]) -> Option<&'a [u8]> {
+fn near_label<'a>(bytes: &'a [u8], name: &[u8]) -> Option<&'a [u8]>
+    ensures { IfSome result (λ near. is_near near.now name.now ≡ true) }
+{
     let mut rest = bytes;
     while let Some(line) = first_line(rest) {
         if let Some(near) = near_in_line(line.text, name) {
@@ -65,7 +73,9 @@ fn near_label<'a>(bytes: &'a [u8], name: &[u8]) -> Option<&'a [u8]> {
 const LOOKED_UP: usize = 8;
 
 /// A label that is defined by an earlier line too.
-pub fn twice_hint<'a>(bytes: &[u8], number: u64, line: &'a [u8]) -> Option<Hint<'a>> {
+pub fn twice_hint<'a>(bytes: &[u8], number: u64, line: &'a [u8]) -> Option<Hint<'a>>
+    ensures { IfSome result (IsTwiceHint number) }
+{
     let mut rest = line;
     for _ in 0..LOOKED_UP {
         let word = first_word(rest)?;
@@ -86,7 +96,9 @@ pub fn twice_hint<'a>(bytes: &[u8], number: u64, line: &'a [u8]) -> Option<Hint<
 }
 
 /// An operand that is a name of no register, and that no line defines.
-pub fn missing_hint<'a>(bytes: &'a [u8], line: &'a [u8]) -> Option<Hint<'a>> {
+pub fn missing_hint<'a>(bytes: &'a [u8], line: &'a [u8]) -> Option<Hint<'a>>
+    ensures { IfSome result IsMissingHint }
+{
     let mut rest = statement(line)?.behind;
     for _ in 0..LOOKED_UP {
         let word = first_word(rest)?;

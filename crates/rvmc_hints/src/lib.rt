@@ -1,5 +1,6 @@
 //! What a person can be told behind a fault's line: hints, each a function of what stands in the input, of the words of
-//! the command line and of the fault. None of these takes memory. And what can be told of a run that is as it should be.
+//! the command line and of the fault. None of these takes memory. And what can be told of a run that is as it should
+//! be.
 #![tactic(auto)]
 
 mod content;

@@ -1,6 +1,7 @@
 //! The lines of a source, and their words: names, and numbers with their sign.
 
-ghost use Rattle.std.specs.Prelude.{◌<◌, ◌≤◌, IfSome, length};
+ghost use Rattle.std.specs.Prelude.{◌≡◌, ◌<◌, ◌≤◌, IfSome, false, length};
+ghost use Rattle.rvmc_hints.specs.Lines.{begins_with_colon, is_name_byte, is_number, is_word_byte};
 
 /// A word of a line, and the bytes behind it.
 #[derive(Clone, Copy)]
@@ -10,12 +11,16 @@ pub struct Word<'a> {
 }
 
 /// Whether a byte may stand in a word behind its first.
-pub fn is_name_byte(byte: u8) -> bool {
+pub fn is_name_byte(byte: u8) -> bool
+    ensures { result ≡ is_name_byte byte }
+{
     byte.is_ascii_alphanumeric() || byte == b'_' || byte == b'.' || byte == b'$'
 }
 
 /// Whether a word begins with a byte: a name or a number.
-pub fn is_word_byte(byte: u8) -> bool {
+pub fn is_word_byte(byte: u8) -> bool
+    ensures { result ≡ is_word_byte byte }
+{
     is_name_byte(byte) || byte == b'-'
 }
 
@@ -61,12 +66,16 @@ pub fn first_word(line: &[u8]) -> Option<Word<'_>>
 }
 
 /// Whether a word is a number, or looks like one: it begins with a digit or a sign.
-pub fn is_number(word: &[u8]) -> bool {
+pub fn is_number(word: &[u8]) -> bool
+    ensures { result ≡ is_number word.now }
+{
     matches!(word, [b'0'..=b'9' | b'-', ..])
 }
 
 /// Whether a colon stands first, behind blanks.
-fn begins_with_colon(bytes: &[u8]) -> bool {
+fn begins_with_colon(bytes: &[u8]) -> bool
+    ensures { result ≡ begins_with_colon bytes.now }
+{
     let mut rest = bytes;
     while let Some((byte, after)) = rest.split_first() {
         if !matches!(*byte, b' ' | b'\t') {
@@ -78,12 +87,16 @@ fn begins_with_colon(bytes: &[u8]) -> bool {
 }
 
 /// Whether a word is a label: a colon stands behind it.
-pub fn is_label(word: &Word<'_>) -> bool {
+pub fn is_label(word: &Word<'_>) -> bool
+    ensures { result ≡ begins_with_colon word.now.behind.now }
+{
     begins_with_colon(word.behind)
 }
 
 /// The first word of a line behind its labels.
-pub fn statement(line: &[u8]) -> Option<Word<'_>> {
+pub fn statement(line: &[u8]) -> Option<Word<'_>>
+    ensures { IfSome result (λ word. begins_with_colon word.behind.now ≡ false) }
+{
     let mut rest = line;
     while let Some(word) = first_word(rest) {
         if !is_label(&word) {

@@ -1,5 +1,8 @@
 //! The mnemonics and the directives, and what each takes, as docs/ASSEMBLER.md lists them.
 
+ghost use Rattle.std.specs.Prelude.{◌≡◌, IfSome, option_map};
+ghost use Rattle.rvmc_hints.specs.Sources.{here_for};
+
 use crate::hint::Place;
 
 /// A mnemonic or a directive, the kinds of its operands, each register and number by itself, and what it takes.
@@ -142,27 +145,10 @@ pub fn directives() -> &'static [Row] {
     &DIRECTIVES
 }
 
-/// A mnemonic of other assemblers, and one that does the same here.
-pub struct Foreign {
-    pub name: &'static str,
-    pub here: &'static str,
-}
-
-/// The table of rows, one line a row.
-macro_rules! foreign {
-    ($($name:literal $here:literal;)*) => {
-        [$(Foreign { name: $name, here: $here }),*]
-    };
-}
-
-/// Mnemonics of GNU as that aren't here.
-pub static FOREIGN: [Foreign; 2] = foreign! {
-    "call" "jal";
-    "tail" "j";
-};
-
 /// The row of a name.
-pub fn row_of<'a>(table: &'a [Row], name: &[u8]) -> Option<&'a Row> {
+pub fn row_of<'a>(table: &'a [Row], name: &[u8]) -> Option<&'a Row>
+    ensures { IfSome result (λ row. row.now.name.now ≡ name.now) }
+{
     for row in table {
         if row.name.as_bytes() == name {
             return Some(row);
@@ -171,12 +157,15 @@ pub fn row_of<'a>(table: &'a [Row], name: &[u8]) -> Option<&'a Row> {
     None
 }
 
-/// What does the same here as a mnemonic of other assemblers.
-pub fn here_for(name: &[u8]) -> Option<&'static str> {
-    for row in &FOREIGN {
-        if row.name.as_bytes() == name {
-            return Some(row.here);
-        }
+/// What does the same here as a mnemonic of GNU as.
+pub fn here_for(name: &[u8]) -> Option<&'static str>
+    ensures { option_map (λ here. here.now) result ≡ here_for name.now }
+{
+    if name == b"call".as_slice() {
+        Some("jal")
+    } else if name == b"tail".as_slice() {
+        Some("j")
+    } else {
+        None
     }
-    None
 }

@@ -2,7 +2,7 @@
 
 ghost use Rattle.std.specs.Prelude.{◌≡◌, ◌++◌, IfOk, decimal, string_bytes};
 ghost use Rattle.rvmc_hints.specs.HintLines.{AppendsHint, IsOneLine, hint_line};
-ghost use Rattle.rvmc_hints.specs.Runs.{next_bound, run_hint_text, spent_head, waiting_head};
+ghost use Rattle.rvmc_hints.specs.Runs.{AppendsLine, next_bound, run_hint_text, spent_head, waiting_head};
 
 use cl_lines::put_beginning;
 use std::alloc::{AllocError, Global};
@@ -143,9 +143,10 @@ fn line_of(alloc: Global, hint: RunHint) -> Result<String, AllocError>
 
 /// Writes the line of a hint. One that can't be written as a whole, or for which memory is refused, changes nothing
 /// else: as much of it stands there as was taken.
-#[tactic(auto, using(crate::proofs::HintLines::no_hint))]
+#[tactic(auto, using(crate::proofs::HintLines::no_hint, crate::proofs::HintLines::nothing_told))]
 pub fn put_run_hint<W: Write>(alloc: Global, out: &mut W, hint: RunHint)
-    ensures { AppendsHint (W.contents out.old) (W.contents out.new) }
+    ensures told { AppendsLine (run_hint_text hint) (W.contents out.old) (W.contents out.new) }
+    ensures one_line { AppendsHint (W.contents out.old) (W.contents out.new) }
 {
     match line_of(alloc, hint) {
         Ok(line) => put_beginning(out, line.as_bytes()),

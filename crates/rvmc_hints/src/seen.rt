@@ -65,7 +65,8 @@ fn is_c(bytes: &[u8]) -> bool
     bytes.starts_with(b"#include") || includes(bytes)
 }
 
-/// What a text is, or what isn't one: a source in C by one of its lines, and else a text only where all bytes are printable.
+/// What a text is, or what isn't one: a source in C by one of its lines, and else a text only where all bytes are
+/// printable.
 fn read_in(bytes: &[u8]) -> Seen
     ensures { result ≡ read_in bytes.now }
 {

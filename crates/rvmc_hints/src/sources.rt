@@ -1,5 +1,12 @@
 //! What is told of a source's first fault, by the words of its line.
 
+ghost use Rattle.std.specs.Prelude.{◌≡◌, ◌≢◌, IfSome, Some, false, option_map, true};
+ghost use Rattle.rv_asm_tokens.specs.Scan.{tokens_of};
+ghost use Rattle.rvmc_hints.specs.Near.{is_near};
+ghost use Rattle.rvmc_hints.specs.Sources.{IsDirectiveHint, IsLimitHint, IsMnemonicHint, IsOperandHint, IsRangeHint};
+ghost use Rattle.rvmc_hints.specs.Sources.{IsSo, first_number, is_of, limit_text, whole_text};
+ghost use Rattle.rvmc_hints.specs.Texts.{hint_text};
+
 use crate::hint::{Hint, Kind, Place};
 use crate::labels::{missing_hint, twice_hint};
 use crate::lines::{first_word, is_number, line_at, statement};
@@ -12,7 +19,9 @@ use rv_asm_statements::register;
 use rv_asm_tokens::{AsmFault, AsmFaultKind, Token, Tokens, value_of};
 
 /// The first name of a table that is near to a word.
-fn near_in(table: &'static [Row], word: &[u8]) -> Option<&'static str> {
+fn near_in(table: &'static [Row], word: &[u8]) -> Option<&'static str>
+    ensures { IfSome result (λ name. is_near name.now word.now ≡ true) }
+{
     for row in table {
         if is_near(row.name.as_bytes(), word) {
             return Some(row.name);
@@ -22,7 +31,9 @@ fn near_in(table: &'static [Row], word: &[u8]) -> Option<&'static str> {
 }
 
 /// A name near to a word, of the mnemonics or the directives, first of the kind that it looks like.
-fn near_name(word: &[u8]) -> Option<&'static str> {
+fn near_name(word: &[u8]) -> Option<&'static str>
+    ensures { IfSome result (λ name. is_near name.now word.now ≡ true) }
+{
     match word {
         [b'.', ..] => near_in(directives(), word),
         _ => match near_in(mnemonics(), word) {
@@ -33,7 +44,9 @@ fn near_name(word: &[u8]) -> Option<&'static str> {
 }
 
 /// The row of a word that begins a statement.
-fn row_named(word: &[u8]) -> Option<&'static Row> {
+fn row_named(word: &[u8]) -> Option<&'static Row>
+    ensures { IfSome result (λ row. row.now.name.now ≡ word.now) }
+{
     match word {
         [b'.', ..] => row_of(directives(), word),
         _ => row_of(mnemonics(), word),
@@ -41,7 +54,9 @@ fn row_named(word: &[u8]) -> Option<&'static Row> {
 }
 
 /// A statement's first word is no mnemonic.
-fn mnemonic_hint(line: &[u8]) -> Option<Hint<'_>> {
+fn mnemonic_hint(line: &[u8]) -> Option<Hint<'_>>
+    ensures { IfSome result IsMnemonicHint }
+{
     let first = statement(line)?;
     let word = first.text;
     if row_named(word).is_some() {
@@ -58,7 +73,9 @@ fn mnemonic_hint(line: &[u8]) -> Option<Hint<'_>> {
 }
 
 /// Whether a word is of the kind that a place asks for.
-fn is_of(place: Place, word: &[u8]) -> bool {
+fn is_of(place: Place, word: &[u8]) -> bool
+    ensures { result ≡ is_of place word.now }
+{
     match place {
         Place::Register => register(word).is_some(),
         Place::Number => is_number(word),
@@ -69,7 +86,10 @@ fn is_of(place: Place, word: &[u8]) -> bool {
 }
 
 /// A word that is of no such kind, of a statement that takes these operands.
-fn misplaced<'a>(word: &'a [u8], kind: Place, row: &Row) -> Hint<'a> {
+fn misplaced<'a>(word: &'a [u8], kind: Place, row: &Row) -> Hint<'a>
+    requires { is_of kind word.now ≡ false }
+    ensures { IsOperandHint result }
+{
     if let Place::Number = kind {
         if let Some(number) = call_number(word) {
             return Hint::Call { word, number };
@@ -84,7 +104,9 @@ fn misplaced<'a>(word: &'a [u8], kind: Place, row: &Row) -> Hint<'a> {
 }
 
 /// The first operand that is of another kind than its place asks for.
-fn operand_hint<'a>(row: &Row, operands: &'a [u8]) -> Hint<'a> {
+fn operand_hint<'a>(row: &Row, operands: &'a [u8]) -> Hint<'a>
+    ensures { IsOperandHint result }
+{
     let mut rest = operands;
     for place in row.places {
         let Some(found) = first_word(rest) else {
@@ -102,7 +124,9 @@ fn operand_hint<'a>(row: &Row, operands: &'a [u8]) -> Hint<'a> {
 }
 
 /// A mnemonic doesn't take the operands behind it.
-fn operands_hint(line: &[u8]) -> Option<Hint<'_>> {
+fn operands_hint(line: &[u8]) -> Option<Hint<'_>>
+    ensures { IfSome result IsOperandHint }
+{
     let first = statement(line)?;
     let row = row_of(mnemonics(), first.text)?;
     Some(operand_hint(row, first.behind))
@@ -112,7 +136,9 @@ fn operands_hint(line: &[u8]) -> Option<Hint<'_>> {
 const SHOWN: usize = 64;
 
 /// What a directive takes, with what stands behind it, where that is printable and short.
-fn takes_at<'a>(behind: &'a [u8], row: &Row) -> Hint<'a> {
+fn takes_at<'a>(behind: &'a [u8], row: &Row) -> Hint<'a>
+    ensures { IsDirectiveHint result }
+{
     let words = behind.trim_ascii();
     if words.is_empty() || words.len() > SHOWN || !are_printable(words) {
         return Hint::Takes {
@@ -128,7 +154,9 @@ fn takes_at<'a>(behind: &'a [u8], row: &Row) -> Hint<'a> {
 }
 
 /// A directive isn't known, or is wrong where it stands.
-fn directive_hint(line: &[u8]) -> Option<Hint<'_>> {
+fn directive_hint(line: &[u8]) -> Option<Hint<'_>>
+    ensures { IfSome result IsDirectiveHint }
+{
     let first = statement(line)?;
     let word = first.text;
     if let [b'.', ..] = word {
@@ -145,7 +173,9 @@ fn directive_hint(line: &[u8]) -> Option<Hint<'_>> {
 }
 
 /// The number that a word spells.
-fn number_of(word: &[u8]) -> Option<i128> {
+fn number_of(word: &[u8]) -> Option<i128>
+    ensures { result ≡ first_number (tokens_of word.now) }
+{
     let Ok(mut tokens) = Tokens::of_line(word) else {
         return None;
     };
@@ -156,7 +186,9 @@ fn number_of(word: &[u8]) -> Option<i128> {
 }
 
 /// The first word that spells this number.
-fn word_of(value: i128, operands: &[u8]) -> Option<&[u8]> {
+fn word_of(value: i128, operands: &[u8]) -> Option<&[u8]>
+    ensures { IfSome result (λ word. first_number (tokens_of word.now) ≡ Some value) }
+{
     let mut rest = operands;
     while let Some(found) = first_word(rest) {
         if number_of(found.text) == Some(value) {
@@ -168,7 +200,9 @@ fn word_of(value: i128, operands: &[u8]) -> Option<&[u8]> {
 }
 
 /// A number doesn't fit, or the way to a target.
-fn range_hint(value: i128, line: &[u8]) -> Option<Hint<'_>> {
+fn range_hint(value: i128, line: &[u8]) -> Option<Hint<'_>>
+    ensures { IfSome result (IsRangeHint value) }
+{
     let first = statement(line)?;
     let row = row_named(first.text)?;
     match word_of(value, first.behind) {
@@ -184,20 +218,34 @@ fn range_hint(value: i128, line: &[u8]) -> Option<Hint<'_>> {
     }
 }
 
+/// What there may be so many of, by the name of the statement that asks for one more.
+fn limit_of(name: &str) -> &'static str
+    ensures { result.now ≡ limit_text name.now }
+{
+    if name == ".comm" {
+        "an image has at most 7 communicators"
+    } else if name == ".link" {
+        "an image has at most 32 links"
+    } else if name == ".globl" {
+        "an image has at most 1024 symbols"
+    } else {
+        "the text and the data have at most 1048576 bytes each"
+    }
+}
+
 /// A part, or the number of communicators, links or symbols, grows past its limit.
-fn limit_hint(line: &[u8]) -> Option<Hint<'_>> {
+fn limit_hint(line: &[u8]) -> Option<Hint<'_>>
+    ensures { IfSome result IsLimitHint }
+{
     let first = statement(line)?;
-    let most = match row_named(first.text)?.name {
-        ".comm" => "an image has at most 7 communicators",
-        ".link" => "an image has at most 32 links",
-        ".globl" => "an image has at most 1024 symbols",
-        _ => "the text and the data have at most 1048576 bytes each",
-    };
-    Some(Hint::Most(most))
+    let row = row_named(first.text)?;
+    Some(Hint::Most(limit_of(row.name)))
 }
 
 /// A fault of the source as a whole.
-fn whole_hint<'a>(kind: AsmFaultKind) -> Option<Hint<'a>> {
+fn whole_hint<'a>(kind: AsmFaultKind) -> Option<Hint<'a>>
+    ensures { option_map hint_text result ≡ whole_text kind }
+{
     match kind {
         AsmFaultKind::Directive => Some(Hint::NoText),
         AsmFaultKind::Limit => Some(Hint::Most(
@@ -208,7 +256,10 @@ fn whole_hint<'a>(kind: AsmFaultKind) -> Option<Hint<'a>> {
 }
 
 /// What a person can be told of a source's first fault.
-pub fn source_hint(bytes: &[u8], fault: AsmFault) -> Option<Hint<'_>> {
+pub fn source_hint(bytes: &[u8], fault: AsmFault) -> Option<Hint<'_>>
+    ensures whole { fault.line ≡ 0 → option_map hint_text result ≡ whole_text fault.kind }
+    ensures said { fault.line ≢ 0 → IfSome result (IsSo fault.line fault.kind) }
+{
     if fault.line == 0 {
         return whole_hint(fault.kind);
     }

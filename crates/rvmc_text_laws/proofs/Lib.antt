@@ -10,3 +10,4 @@ pub mod Why
 pub mod EndTexts
 pub mod OneText
 pub mod Begun
+pub mod OnTheWay

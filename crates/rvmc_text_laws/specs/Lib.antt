@@ -1,3 +1,4 @@
 pub mod Laws
 pub mod OneText
 pub mod Begun
+pub mod OnTheWay

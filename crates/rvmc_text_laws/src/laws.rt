@@ -3,6 +3,7 @@
 ghost use Rattle.rvmc_text_laws.specs.Begun.{BegunLaw};
 ghost use Rattle.rvmc_text_laws.specs.Laws.{WhyLaw};
 ghost use Rattle.rvmc_text_laws.specs.OneText.{EndTextLaw, OneTextLaw};
+ghost use Rattle.rvmc_text_laws.specs.OnTheWay.{OnTheWayLaw};
 
 /// `why` prints the same text for alike clusters to which runs of one image lead.
 pub fn why_law()
@@ -25,4 +26,11 @@ pub fn one_text_law()
 /// of those if every send was buffered, or if sends might wait in such a search.
 pub fn begun_law()
     ensures { BegunLaw }
+{}
+
+/// Where `explore` adds `, also with messages on their way`, each run on a network, on which a message takes its time, is a run
+/// of the machine on which it arrives as soon as it is sent, but for polls. So the list has each end of such a run, and no such
+/// run comes to stuck ranks or to ranks that need buffers of which the search knows nothing.
+pub fn on_the_way_law()
+    ensures { OnTheWayLaw }
 {}

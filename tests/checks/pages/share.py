@@ -236,12 +236,15 @@ class Share:
         self.browser.press("End")
         self.expect("share: no step behind", "this is the last place" in self.said("ArrowRight"), True)
         self.browser.press("w")
-        self.browser.type(element("watch"), "0x14ba0")
+        # the address of `sum`, into which main receives
+        listed = self.pages.told(["list"], self.record)[1].decode()
+        address = re.search(r"in main .*: RECV buf=(0x[0-9a-f]+)", listed)[1]
+        self.browser.type(element("watch"), address)
         self.browser.value("document.activeElement.blur()")
         # rank 3 has printed 64, which is @ in ASCII; it got 45, and added 9 and 10
-        value = f"{self.row('0x14ba0')}.children[1].textContent"
+        value = f"{self.row(address)}.children[1].textContent"
         for kind, text in (("bytes", "40 00 00 00"), ("unsigned", "64"), ("text", '"@"')):
-            self.browser.value(f"(one => {{one.value = '{kind}'; one.onchange()}})({self.row('0x14ba0')}.children[2])")
+            self.browser.value(f"(one => {{one.value = '{kind}'; one.onchange()}})({self.row(address)}.children[2])")
             self.expect(f"share: as {kind}", self.browser.value(value), text)
         for text in ('"@"', '"6"', '"-"'):
             self.browser.press("[")

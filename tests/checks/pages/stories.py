@@ -1,5 +1,7 @@
 """Pages of which docs/ show pictures, walked as the docs walk them."""
 
+import re
+
 from walks import TOP, element
 
 # the first byte of the memory that the page shows
@@ -36,7 +38,9 @@ def expect_course(pages):
     with open(f"{TOP}/c/course/ring.image", "rb") as file:
         pages.open_record(pages.told(["one", "--record"], file.read())[1], 0)
     pages.browser.click("document.querySelector('#step999>use:last-of-type')")
-    pages.browser.type(element("address"), "0x13754")
+    with open(f"{TOP}/docs/COURSE.md", encoding="utf-8") as file:
+        address = re.search(r"type `(0x[0-9a-f]+)`, the address of `sum`", file.read())[1]
+    pages.browser.type(element("address"), address)
     expect_first(pages, "course: the sum", 1000, ("65", "fresh"))
     told = pages.browser.value(f"{element('told-step')}.innerText")
     pages.expect("course: the step", "999 rank 2 " in told and "message from rank 1 " in told, True)

@@ -78,7 +78,7 @@ tell_need-requires-clause-way g c = λ some.
 pub returns-clause-ends : goal.returns-clause-ends
 returns-clause-ends g c = λ standing room begun.
     tells_from (how_in c.args.course.now) c.args.course.now.order.now standing c.rest.search _
-    c.rest.done room (c.rest.invariant.0 standing begun) refl refl refl
+    c.rest.done room (c.rest.invariant.0 standing begun) refl refl refl refl
     (omega (arith, c.saturating_sub-left.ensures, c.len-2.ensures, c.rest.search.nodes.ok.0))
 
 pub returns-clause-most : goal.returns-clause-most

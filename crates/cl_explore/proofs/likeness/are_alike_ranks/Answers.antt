@@ -4,8 +4,9 @@ use Rattle.std.proofs.lemmas.Option.{same_Some, slice_get-map, slice_get_within}
 use Rattle.cl_state.specs.Rank.{Rank}
 use Rattle.cl_state.specs.Room.{rank_of}
 use Rattle.cl_order_laws.specs.Alike.{AlikeRanks}
-use Rattle.cl_explore.proofs.Lists.{read_at, read_of}
-use Rattle.cl_explore.proofs.Alike.{below_more, each_of}
+use Rattle.cl_alike.proofs.Lists.{below_more, read_at}
+use Rattle.cl_explore.proofs.Lists.{read_of}
+use Rattle.cl_explore.proofs.Alike.{each_of}
 use Rattle.cl_explore.proofs.likeness.are_alike_ranks.Goals as goal
 
 pub returns : goal.returns

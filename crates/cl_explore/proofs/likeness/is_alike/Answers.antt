@@ -3,7 +3,8 @@ use Rattle.cl_order_laws.specs.Alike.{AlikeRanks, AreEach}
 use Rattle.cl_state.specs.Room.{rank_of}
 use Rattle.cl_contests.specs.declared.patterns.AskedBy.{AskedBy}
 use Rattle.cl_explore.specs.How.{how_of}
-use Rattle.cl_explore.specs.Likeness.{AreAlikeLinks, AreNamedIn, HaveSameSites}
+use Rattle.cl_alike.specs.Boxes.{AreAlikeLinks}
+use Rattle.cl_explore.specs.Likeness.{AreNamedIn, HaveSameSites}
 use Rattle.cl_explore.proofs.Alike.{standing_alike}
 use Rattle.cl_explore.proofs.likeness.is_alike.Goals as goal
 use Rattle.cl_explore.proofs.likeness.is_alike.Goals.{then-are_alike_boxes, else-are_alike_boxes}

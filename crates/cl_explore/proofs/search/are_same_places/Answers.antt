@@ -5,7 +5,7 @@ use Rattle.cl_deeds.specs.Orders.{in_slot}
 use Rattle.cl_state.specs.Room.{rank_of}
 use Rattle.cl_state.specs.declared.state.RankState.{RankState}
 use Rattle.cl_order_laws.specs.Closed.{IsDone}
-use Rattle.cl_explore.proofs.Lists.{read_at}
+use Rattle.cl_alike.proofs.Lists.{read_at}
 use Rattle.cl_explore.proofs.search.are_same_places.Goals as goal
 
 pub loop-rank-preserved : goal.loop-rank-preserved

@@ -2,7 +2,7 @@ use Rattle.std.proofs.Common.{◌≡◌, ◌∙◌, Bool, List, ℕ, length, sub
 use Rattle.cl_explore.specs.Ends.{findings}
 use Rattle.cl_explore.specs.declared.leads.Lead.{Lead}
 use Rattle.rvmc_explore.specs.Endless.{AreComplete}
-use Rattle.rvmc_explore.specs.InnerPatient.{TellsMarkedAlone}
+use Rattle.rvmc_explore.specs.Marks.{TellsMarkedAlone}
 use Rattle.rvmc_explore.specs.Searched.{AreSound}
 use Rattle.rvmc_explore.proofs.Patience.{tells}
 use Rattle.rvmc_explore.proofs.patient.hanging.Goals as goal

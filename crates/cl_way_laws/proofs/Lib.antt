@@ -1,0 +1,14 @@
+pub mod SameHubs
+pub mod Near
+pub mod Elsewhere
+pub mod Asking
+pub mod Received
+pub mod AllCame
+pub mod States
+pub mod AtHub
+pub mod Network
+pub mod Sure
+pub mod Found
+pub mod Reached
+pub mod Told
+pub mod Rows

@@ -1,0 +1,3 @@
+pub mod Clusters
+pub mod Laws
+pub mod Rows
