@@ -1,2 +1,4 @@
+pub mod Beside
 pub mod Hints
+pub mod Mistyped
 pub mod Quiet

@@ -1,7 +1,10 @@
 //! What is told behind a fault's line.
 
-ghost use Rattle.std.specs.Prelude.{◌≡◌};
-ghost use Rattle.rvmc_advice.specs.Hints.{wanted_by};
+ghost use Rattle.std.specs.Prelude.{◌≡◌, ◌≢◌, IfSome, Some, option_map, true};
+ghost use Rattle.rvmc_advice.specs.Hints.{IsAbsent, IsBytesHint, IsContentHint, IsFaultHint, IsPlansHint, has_symbol};
+ghost use Rattle.rvmc_advice.specs.Hints.{plans_of, spot_in, wanted_by};
+ghost use Rattle.rvmc_hints.specs.Near.{is_near};
+ghost use Rattle.rvmc_words.specs.declared.debug.Spot.{Spot};
 
 use cl_debug::DebugFault;
 use cl_text::RecordFault;
@@ -58,7 +61,9 @@ fn is_source(alloc: Global, bytes: &[u8]) -> bool {
 
 /// What stands in the input where the command takes something else. Only a text, in place of an image or a record, is
 /// given to the assembler.
-fn content<'a>(alloc: Global, line: &CommandLine, bytes: &[u8]) -> Option<Hint<'a>> {
+fn content<'a>(alloc: Global, line: &CommandLine, bytes: &[u8]) -> Option<Hint<'a>>
+    ensures { IfSome result (IsContentHint line.now bytes.now) }
+{
     let wanted = wanted_by(line);
     match content_hint(wanted, false, bytes) {
         Some(Hint::Text(_) | Hint::C) => content_hint(wanted, is_source(alloc, bytes), bytes),
@@ -67,7 +72,9 @@ fn content<'a>(alloc: Global, line: &CommandLine, bytes: &[u8]) -> Option<Hint<'
 }
 
 /// The numbers of a list, if one was given.
-fn numbers(list: &Option<Numbers>) -> Option<&[u8]> {
+fn numbers(list: &Option<Numbers>) -> Option<&[u8]>
+    ensures { option_map (λ numbers. numbers.now) result ≡ list.now }
+{
     match list {
         Some(numbers) => Some(numbers.as_slice()),
         None => None,
@@ -75,7 +82,9 @@ fn numbers(list: &Option<Numbers>) -> Option<&[u8]> {
 }
 
 /// What is wrong with the plan or the order of a run of this image.
-fn plans_of<'a>(command: &ImageCommand, image: &Image) -> Option<Hint<'a>> {
+fn plans_of<'a>(command: &ImageCommand, image: &Image) -> Option<Hint<'a>>
+    ensures { result ≡ plans_of command.now image.now }
+{
     let parts = image.parts();
     match command {
         ImageCommand::Run { plan, .. } | ImageCommand::RunUntilStuck { plan, .. } => {
@@ -89,7 +98,9 @@ fn plans_of<'a>(command: &ImageCommand, image: &Image) -> Option<Hint<'a>> {
 }
 
 /// What is wrong with the plan or the order of a run.
-fn plans<'a>(alloc: Global, line: &CommandLine, bytes: &[u8]) -> Option<Hint<'a>> {
+fn plans<'a>(alloc: Global, line: &CommandLine, bytes: &[u8]) -> Option<Hint<'a>>
+    ensures { IfSome result (IsPlansHint line.now bytes.now) }
+{
     let CommandLine::OfImage { source, command } = line else {
         return None;
     };
@@ -100,7 +111,9 @@ fn plans<'a>(alloc: Global, line: &CommandLine, bytes: &[u8]) -> Option<Hint<'a>
 }
 
 /// What a fault of the input's own bytes is about.
-fn of_bytes<'a>(bytes: &'a [u8], fault: &Fault) -> Option<Hint<'a>> {
+fn of_bytes<'a>(bytes: &'a [u8], fault: &Fault) -> Option<Hint<'a>>
+    ensures { IfSome result (IsBytesHint bytes.now fault.now) }
+{
     match *fault {
         Fault::Source(fault) => source_hint(bytes, fault),
         Fault::Record(RecordFault::Short(_)) => short_hint(bytes),
@@ -118,7 +131,9 @@ fn hint_of<'a>(
     line: &CommandLine,
     bytes: &'a [u8],
     fault: &Fault,
-) -> Option<Hint<'a>> {
+) -> Option<Hint<'a>>
+    ensures { IfSome result (IsFaultHint line.now bytes.now fault.now) }
+{
     match fault {
         Fault::Source(_) | Fault::Image(_) | Fault::Record(_) => match content(alloc, line, bytes) {
             Some(hint) => Some(hint),
@@ -141,7 +156,9 @@ fn image_of_record(alloc: Global, bytes: &[u8]) -> Option<Image> {
 }
 
 /// What a word of `debug` names in place of an address.
-fn spot_in(word: &DebugWord) -> Option<&Spot> {
+fn spot_in(word: &DebugWord) -> Option<&Spot>
+    ensures { option_map (λ spot. spot.now) result ≡ spot_in word.now }
+{
     match word {
         DebugWord::Break { at, .. } | DebugWord::Bytes { at, .. } => Some(at),
         _ => None,
@@ -149,7 +166,9 @@ fn spot_in(word: &DebugWord) -> Option<&Spot> {
 }
 
 /// Whether a symbol has this name.
-fn has_symbol(symbols: &[Symbol], name: &str) -> bool {
+fn has_symbol(symbols: &[Symbol], name: &str) -> bool
+    ensures { result ≡ has_symbol symbols.now name.now }
+{
     for symbol in symbols {
         if symbol.name.as_slice() == name.as_bytes() {
             return true;
@@ -159,7 +178,9 @@ fn has_symbol(symbols: &[Symbol], name: &str) -> bool {
 }
 
 /// The first symbol whose name is near to this one.
-fn near_symbol<'a>(symbols: &'a [Symbol], name: &str) -> Option<&'a [u8]> {
+fn near_symbol<'a>(symbols: &'a [Symbol], name: &str) -> Option<&'a [u8]>
+    ensures { IfSome result (λ near. is_near near.now name.now ≡ true) }
+{
     for symbol in symbols {
         if is_near(symbol.name.as_slice(), name.as_bytes()) {
             return Some(symbol.name.as_slice());
@@ -193,9 +214,11 @@ fn next_line<'a>(symbols: &'a [Symbol], file: &str, number: &str) -> Option<&'a 
     found
 }
 
-/// What can be told of a spot that isn't there: a name that no symbol has, and one that is near to it; or a line without
-/// code, and the next one with code.
-fn absent<'a>(symbols: &'a [Symbol], at: &'a Spot) -> Option<Hint<'a>> {
+/// What can be told of a spot that isn't there: a name that no symbol has, and one that is near to it; or a line
+/// without code, and the next one with code.
+fn absent<'a>(symbols: &'a [Symbol], at: &'a Spot) -> Option<Hint<'a>>
+    ensures { IfSome result (IsAbsent symbols.now at.now) }
+{
     match at {
         Spot::Address(_) => None,
         Spot::Name(name) => {
@@ -218,7 +241,9 @@ fn absent<'a>(symbols: &'a [Symbol], at: &'a Spot) -> Option<Hint<'a>> {
 }
 
 /// What can be told of the first of the words that names what isn't there.
-fn symbol_hint<'a>(symbols: &'a [Symbol], words: &'a [DebugWord]) -> Option<Hint<'a>> {
+fn symbol_hint<'a>(symbols: &'a [Symbol], words: &'a [DebugWord]) -> Option<Hint<'a>>
+    ensures { IfSome result (λ hint. (at : Spot) × IsAbsent symbols.now at hint) }
+{
     for word in words {
         if let Some(at) = spot_in(word) {
             if let Some(hint) = absent(symbols, at) {
