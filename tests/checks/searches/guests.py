@@ -86,8 +86,8 @@ def polled(count, last, ranks=3, others=None):
 POLLS = 130
 POLLED = polled(POLLS, call("EXIT", "s0"))
 
-# It waits for a message of this tag, and is stuck while rank 7 goes on
-STUCK = polled(25, receive(3, "s0"), 8, {7: "on: j on\n"})
+# It waits for a message of this tag, and is stuck while rank 4 goes on
+STUCK = polled(12, receive(3, "s0"), 5, {4: "on: j on\n"})
 
 
 def seen(name):
