@@ -8,7 +8,8 @@ use crate::course::Manner;
 use crate::likeness::key_of;
 use crate::search::Search;
 use cl_machine::Step;
-use cl_moves::{MoveFault, Standing, is_done, is_end, turns_of};
+use cl_moves::{MoveFault, Standing, is_done, is_end, is_in_vain, turns_of};
+use std::alloc::AllocError;
 
 /// How often each rank has its turn in one schedule, at most.
 const MOST_ROUNDS: usize = 65536;
@@ -19,7 +20,21 @@ const MOST_ALONE: u64 = 1024;
 /// How many turns one schedule takes, at most: a rank that polls or counts would never be done.
 const MOST_TURNS: usize = 1_000_000;
 
-/// The next turn of a rank that isn't stopped, not a look that misses what is there. None where the rank has none.
+/// Whether a hart of a rank asks for what isn't there, if it is there itself. Nothing depends on it but which turn is taken. The
+/// only error is want of memory, for the posts of a WAITALL.
+fn asks_in_vain(live: &Standing, rank: u8, hart: u8) -> Result<bool, AllocError> {
+    let Some(own) = live.cluster.ranks.get(usize::from(rank)) else {
+        return Ok(false);
+    };
+    if usize::from(hart) >= own.harts.len() {
+        return Ok(false);
+    }
+    let ask = own.ask(hart)?;
+    Ok(is_in_vain(&live.cluster, rank, &ask))
+}
+
+/// The next turn of a rank that isn't stopped: a look at a box sees what is there, and misses only what isn't. None where the
+/// rank has none.
 ///
 /// Refusals: Clock, Memory.
 fn next_turn(course: &Manner<'_>, live: &Standing, rank: u8) -> Result<Option<Step>, MoveFault>
@@ -37,6 +52,10 @@ fn next_turn(course: &Manner<'_>, live: &Standing, rank: u8) -> Result<Option<St
         return Ok(None);
     };
     let mut turns = turns_of(course.alloc, &live.cluster, rank, hart)?;
+    // of a look the last turn sees what is there, and the one before it misses
+    if turns.len() > 1 && asks_in_vain(live, rank, hart)? {
+        let _sees = turns.pop();
+    }
     Ok(turns.pop())
 }
 
