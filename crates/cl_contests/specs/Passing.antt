@@ -58,4 +58,4 @@ pub record IsWaitKept (a : AskedBy) : Type 0 where
   pub claims : is_pattern a.pattern claim ≡ false
   pub polls : is_pattern a.pattern poll ≡ false
   pub polls_of_sends : is_pattern a.pattern poll_of_sends ≡ false
-  pub synchronous : (dest comm : ℕ) → is_pattern a.pattern (send true dest comm) ≡ false
+  pub polls_of_complete : is_poll_of_complete a.pattern ≡ false

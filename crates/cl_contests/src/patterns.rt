@@ -254,8 +254,8 @@ fn is_wait(asked: &AskedBy) -> bool
     ensures { IsTrue result → IsWaitKept asked.now }
 {
     match asked.pattern {
-        Pattern::Send { sync, .. } => !sync,
-        Pattern::Receive | Pattern::Initialisation { .. } | Pattern::PollOfCuts => true,
+        Pattern::Send { .. } | Pattern::Receive => true,
+        Pattern::Initialisation { .. } | Pattern::PollOfCuts => true,
         Pattern::BySender { .. } | Pattern::ByReceiver { .. } => true,
         Pattern::Poll | Pattern::PollOfSends | Pattern::PollOfComplete => false,
         Pattern::Claim | Pattern::AnySource { .. } => false,
@@ -536,8 +536,8 @@ impl Patterns {
         true
     }
 
-    /// Whether ranks only wait for named ranks: none asks for any source, claims a message, goes on where nothing is there, or
-    /// sends synchronously. Then it doesn't matter how long messages take.
+    /// Whether ranks only wait for named ranks: none asks for any source, claims a message, or goes on where nothing is there,
+    /// here or on a network. Then it doesn't matter how long messages take.
     pub fn only_wait(&self) -> bool
         ensures { IsTrue result → OnlyWaits (search_of self.now.may_wait self.now.kept.items) }
     {
