@@ -2,8 +2,8 @@
 the calls that the ranks make in a search, or in one run."""
 
 import cluster
-from machine import WAITING, is_at_call
-from ranks import ROWS, Rank
+from machine import WAITING, is_at_call, signed
+from ranks import NULL, ROWS, SEND, Rank
 
 # what the hub is asked for something that may not be there yet
 LOOKS = ("collect", "finished", "all", "probe")
@@ -16,17 +16,30 @@ SOURCES = {"recv": 2, "probe": 1}
 
 
 def is_wait(call, name, *arguments):
-    """Whether what a call of this number asks of the hub names its source, is no synchronous send and no matched probe, and waits
-    where nothing is there."""
-    if name == "send":
-        return not arguments[0]
+    """Whether what a call of this number asks of the hub names its source, is no matched probe, and waits where nothing is
+    there."""
     if name in ("claim", "claimed") or (name in SOURCES and arguments[SOURCES[name]] is None):
         return False
     return name not in LOOKS or call not in GOES_ON
 
 
+def is_complete(request):
+    """Whether a request is a synchronous send that was complete as it was made: its receive was posted before it."""
+    if request is None or request.kind != SEND or not request.active or signed(request.transfer.peer) == NULL:
+        return False
+    return request.post is None and request.sent is None
+
+
+def polls_complete(rank, hart):
+    """Whether a hart's next turn is a TEST of such a send, or a TESTALL that names one. It asks nobody here, and on a network it
+    may find nothing yet."""
+    return any(is_complete(rank.requests.get(handle)) for handle in rank.handles_ahead(rank.harts[hart], Rank.test, Rank.testall))
+
+
 def turn(rank, hart):
     """Gives a hart of a rank a turn. Returns its step, and whether what it asks of the hub only waits for a named rank."""
+    if polls_complete(rank, hart):
+        return rank.turn(hart), False
     asked, ask, call = [], rank.ask, rank.harts[hart].regs[17]
     rank.ask = lambda name, *arguments: asked.append((name, *arguments)) or ask(name, *arguments)
     try:

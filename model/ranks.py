@@ -641,18 +641,18 @@ class Rank:
         """WAITALL."""
         self.several(True, at, count, statuses)
 
-    def handles_ahead(self, hart):
-        """The handles of the WAIT or WAITALL that a hart makes in its next turn: none where it makes none, or a check refuses
-        it."""
+    def handles_ahead(self, hart, one=wait_for, several=waitall):
+        """The handles of the WAIT or WAITALL, or of two calls like these, that a hart makes in its next turn: none where it makes
+        none, or a check refuses it."""
         is_again = hart.mode == WAITING and hart.why is None
         if not is_again and not (hart.mode == RUNNING and is_at_call(hart, self.memory)):
             return []
         call, words = ROWS.get(hart.regs[17]), hart.regs[10:13]
         try:
-            if call is Rank.wait_for:
+            if call is one:
                 self.check_one(*words[:2])
                 return words[:1]
-            return self.check_several(*words) if call is Rank.waitall else []
+            return self.check_several(*words) if call is several else []
         except Refused:
             return []
 

@@ -1,3 +1,4 @@
+pub mod Complete
 pub mod Patterns
 pub mod Clusters
 pub mod Settled

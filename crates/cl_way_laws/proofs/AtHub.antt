@@ -44,7 +44,9 @@ use Rattle.cl_order_laws.proofs.Walks.{hub_entry}
 use Rattle.cl_first_laws.proofs.Exchanges.{Called, call_of, next, turn_of}
 use Rattle.cl_reduction_laws.specs.Below.{AskWithin, Turn}
 use Rattle.cl_reduction_laws.specs.Clusters.{IsReadyPoll, IsWithin, NamesRightly, Search, State, weight_in}
+use Rattle.cl_reduction_laws.specs.Complete.{PollWithin}
 use Rattle.cl_reduction_laws.specs.Patterns.{IsAllowed, pattern_of, pattern_of_ask, pattern_of_request}
+use Rattle.cl_reduction_laws.proofs.Complete.{waits_within}
 use Rattle.cl_reduction_laws.proofs.First.{polls_on}
 use Rattle.cl_reduction_laws.proofs.Good.{good_after, grows_after, tells_named, waits_after}
 use Rattle.cl_reduction_laws.proofs.Naming.{rightly_more, rightly_told}
@@ -243,12 +245,14 @@ module _ (search : Search) (image : ImageParts) (waits_only : OnlyWaits search)
         ready = subst (IsReady (request.Collect n)) (sym (reply_is d.journal r (request.Collect n) ∙ gets)) tt;
         within = λ z at.
             let same = same_Some poster z (sym poster_there ∙ at) in
-            subst (λ z. IsAllowed search.patterns r (pattern_of z hart) × AskWithin search.wild r (asked z hart)) same (
+            subst (λ z. IsAllowed search.patterns r (pattern_of z hart) × AskWithin search.wild r (asked z hart)
+            × PollWithin search.polls_of_complete r z hart) same (
               subst (λ k. IsAllowed search.patterns r
                   (pattern_of_ask (waits_on (doing poster.site (part_of poster hart))) k)) (sym asks_then)
                   (subst (λ b. IsAllowed search.patterns r (pattern_of_request b (request.Collect n)))
                   (sym (polls_on poster hart n mode_is)) tt),
               subst (AskWithin search.wild r) (sym asks_then) tt,
+              waits_within search.polls_of_complete r poster hart (polls_on poster hart n mode_is),
             );
       }
 
