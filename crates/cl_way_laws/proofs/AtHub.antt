@@ -41,17 +41,20 @@ use Rattle.cl_order_laws.proofs.Each.{set_here, set_set}
 use Rattle.cl_order_laws.proofs.SureAlone.{IsLive, has_hart}
 use Rattle.cl_order_laws.proofs.SureHub.{reply_is}
 use Rattle.cl_order_laws.proofs.Walks.{hub_entry}
+use Rattle.cl_first_laws.specs.Below.{TellsOnly}
 use Rattle.cl_first_laws.proofs.Exchanges.{Called, call_of, next, turn_of}
 use Rattle.cl_reduction_laws.specs.Below.{AskWithin, Turn}
-use Rattle.cl_reduction_laws.specs.Clusters.{IsReadyPoll, IsWithin, NamesRightly, Search, State, weight_in}
+use Rattle.cl_reduction_laws.specs.Clusters.{IsReadyPoll, IsWithin, NamesRightly, Search, State, may_be_awaited, weight_in}
 use Rattle.cl_reduction_laws.specs.Patterns.{IsAllowed, pattern_of, pattern_of_ask, pattern_of_request}
 use Rattle.cl_reduction_laws.proofs.First.{polls_on}
-use Rattle.cl_reduction_laws.proofs.Good.{good_after, grows_after, tells_named, waits_after}
+use Rattle.cl_reduction_laws.proofs.Good.{IsListed, IsTold, good_after, grows_after, tells_named, waits_after}
 use Rattle.cl_reduction_laws.proofs.Naming.{rightly_more, rightly_told}
 use Rattle.cl_contest_laws.proofs.Good.{good_alike}
 use Rattle.cl_way_laws.specs.Clusters.{IsArrived, WayCluster, called_on_way}
-use Rattle.cl_contests.specs.Waiting.{OnlyWaits}
-use Rattle.cl_way_laws.proofs.Asking.{GoesAs, at_once, goes_as, names_source, not_posted, posts, stays}
+use Rattle.cl_way_laws.specs.Waiting.{IsSsend, OnlyWaits, SendsBySsend}
+use Rattle.cl_way_laws.proofs.Asking.{GoesAs, at_once, completes, goes_as, names_source, not_posted, posts, stays}
+use Rattle.cl_way_laws.proofs.Complete.{asked_still, complete_still}
+use Rattle.cl_way_laws.proofs.LaterSend.{later as send_later, polls as send_polls, waits as send_waits}
 use Rattle.cl_way_laws.proofs.Near.{AreNear, IsNear, arrived_near, near_alike, told_near, vain_near}
 use Rattle.cl_way_laws.proofs.Received.{posted_as}
 use Rattle.cl_way_laws.proofs.SameHubs.{same_call, same_hub_back, same_hub_is, same_hub_on}
@@ -60,7 +63,8 @@ use Rattle.cl_way_laws.proofs.States.{Behind, WayState, each_in}
 module _ (search : Search) (image : ImageParts) (waits_only : OnlyWaits search)
     (a : WayState search image) (r : ℕ) (rank : Rank) (q : Request) (stamp : ℕ)
     (there : slice_get a.now.ranks r ≡ Some rank)
-    (asks : asked rank (search.harts r) ≡ Ask.Hub q) (within : IsWithin search a.state.cluster r) where
+    (asks : asked rank (search.harts r) ≡ Ask.Hub q) (within : IsWithin search a.state.cluster r)
+    (by_ssend : SendsBySsend a.state.cluster r (search.harts r)) where
   abbrev hart : ℕ
   hart = search.harts r
 
@@ -340,6 +344,146 @@ module _ (search : Search) (image : ImageParts) (waits_only : OnlyWaits search)
                 let ps = posts_of (lines_of w) in
                 ap (λ k. k + 1) (sym (posts_length (pairs ps)) ∙ ap length (posts_pairs ps) ∙ posts_length (lines_of w))
 
+  -- ---- its synchronous send is complete once it has arrived, and it waits
+
+  module _ (comm dest tag : ℕ) (bytes : List ℕ) (is : q ≡ request.Send true comm dest tag bytes)
+      (posted : reply_on_way w r q ≡ reply.Posted (next_number w.hub.board) false)
+      (done : reply_at_once w r q ≡ reply.Posted (next_number w.hub.board) true)
+      (hub : IsSameHub (all_arrived (behind w r q)) (behind_at_once w r q)) where
+    abbrev number : ℕ
+    number = next_number w.hub.board
+
+    abbrev sender : Rank
+    sender = told rank hart (answer.Reply (reply.Posted number false)) stamp
+
+    has_it : hart < length rank.harts
+    has_it = has_hart rank hart (subst IsLive (sym asks) tt)
+
+    ssend : IsSsend (doing rank.site (part_of rank hart))
+    ssend = by_ssend rank here comm dest tag bytes (asks ∙ ap (λ p. Ask.Hub p) is)
+
+    sender_waits : mode_of sender hart ≡ Waiting (Post number)
+    sender_waits = send_waits rank hart q has_it asks ssend number stamp
+
+    sender_asks : asked sender hart ≡ Ask.Hub (request.Finished number)
+    sender_asks = send_polls rank hart q has_it asks ssend number stamp
+
+    numbers : next_number w.hub.board ≡ next_number h.board
+    numbers =
+        let ps = posts_of (lines_of w) in
+        ap (λ k. k + 1)
+        (sym (posts_length (lines_of w)) ∙ ap length (sym (posts_pairs ps)) ∙ posts_length (pairs ps))
+        ∙ ap (λ ls. length ls + 1) (sym a.arrived.hub.lines)
+
+    -- where all has arrived it is told that its send is complete
+    done_there : (outcome h r q).0 ≡ reply.Posted (next_number h.board) true
+    done_there = sym (at_hub q).0 ∙ done ∙ ap (λ k. reply.Posted k true) numbers
+
+    module _ (d : Cluster) (two : IsArrived new d) where
+      sender_ranks : d.ranks ≡ slice_set a.now.ranks r sender
+      sender_ranks = two.ranks ∙ ap (λ x. told_so x stamp) posted
+
+      sender_there : slice_get d.ranks r ≡ Some sender
+      sender_there = ap (λ xs. slice_get xs r) sender_ranks ∙ set_here a.now.ranks r sender rank there
+
+      -- the hub there is the one behind the turn of the machine
+      same_then : IsSameHub (hub_of then.journal) (hub_of d.journal)
+      same_then =
+          same_hub_on (hub_of then.journal) (behind_at_once w r q) (hub_of d.journal) hub_then
+          (same_hub_on (behind_at_once w r q) (all_arrived (behind w r q)) (hub_of d.journal)
+          (same_hub_back (all_arrived (behind w r q)) (behind_at_once w r q) hub)
+          (same_hub_back (hub_of d.journal) (all_arrived (behind w r q)) two.hub))
+
+      complete_there : (outcome (hub_of d.journal) r (request.Finished number)).0 ≡ reply.Done
+      complete_there =
+          (same_call (hub_of then.journal) (hub_of d.journal) r (request.Finished number) same_then).0
+          ∙ ap (λ k. (outcome k r (request.Finished number)).0) called.hubs
+          ∙ ap (λ p. (outcome (outcome h r p).1 r (request.Finished number)).0) is
+          ∙ ap (λ k. (outcome (outcome h r (request.Send true comm dest tag bytes)).1 r (request.Finished k)).0) numbers
+          ∙ complete_still h r comm dest tag bytes (ap (λ p. (outcome h r p).0) (sym is) ∙ done_there)
+
+      pub send_ready : IsReadyPoll search d r
+      send_ready = record {
+        rank = sender;
+        there = sender_there;
+        light = ap weight_in sender_waits;
+        q = request.Finished number;
+        asks = sender_asks;
+        ready = subst (IsReady (request.Finished number))
+            (sym (reply_is d.journal r (request.Finished number) ∙ complete_there)) tt;
+        within = λ z at.
+            let same = same_Some sender z (sym sender_there ∙ at) in
+            subst (λ z. IsAllowed search.patterns r (pattern_of z hart) × AskWithin search.wild r (asked z hart)) same (
+              subst (λ k. IsAllowed search.patterns r
+                  (pattern_of_ask (waits_on (doing sender.site (part_of sender hart))) k)) (sym sender_asks)
+                  (subst (λ b. IsAllowed search.patterns r (pattern_of_request b (request.Finished number)))
+                  (sym (polls_on sender hart number sender_waits)) tt),
+              subst (AskWithin search.wild r) (sym sender_asks) tt,
+            );
+      }
+
+      -- its poll leads to where its turn leads on the machine
+      pub send_leads : (last : Cluster) → Turn r hart d last → IsNear last then
+      send_leads last poll =
+          let k = call_of r hart d last sender (request.Finished number) sender_there sender_asks poll in
+          let told_it : last.ranks ≡ told_so (reply.Posted number true) k.stamp =
+          k.ranks ∙ ap (λ x. slice_set d.ranks r (told sender hart (answer.Reply x) k.stamp)) complete_there
+          ∙ ap (λ xs. slice_set xs r (told sender hart (answer.Reply reply.Done) k.stamp)) sender_ranks
+          ∙ set_set a.now.ranks r sender (told sender hart (answer.Reply reply.Done) k.stamp)
+          ∙ ap (slice_set a.now.ranks r) (send_later rank hart q has_it asks ssend number stamp k.stamp) in
+          record {
+            ranks = subst (λ xs. AreNear xs then.ranks) (sym told_it)
+                (subst (AreNear (told_so (reply.Posted number true) k.stamp))
+                (sym (ranks_then ∙ ap (λ x. told_so x called.stamp) done))
+                (told_near a.now.ranks r hart rank (answer.Reply (reply.Posted number true)) k.stamp called.stamp));
+            hub = same_hub_on (hub_of last.journal) (hub_of d.journal) (hub_of then.journal)
+                (same_hub_back (hub_of d.journal) (hub_of last.journal)
+                (same_hub_is (hub_of d.journal) (hub_of last.journal)
+                (k.hubs ∙ asked_still h r comm dest tag bytes (hub_of d.journal) number)))
+                (same_hub_back (hub_of then.journal) (hub_of d.journal) same_then);
+            boxes = called.boxes ∙ a.arrived.boxes ∙ sym two.boxes ∙ sym k.boxes;
+          }
+
+    completes_behind : Behind search new
+    completes_behind =
+        let journal = then.journal in
+        let made : hub_of journal ≡ (outcome h r q).1 = called.hubs in
+        let d : Cluster = record { ranks = new.ranks; journal = journal; boxes = new.boxes } in
+        let mine : NamesRightly (hub_of journal).board.lines sender =
+        subst (λ (k : HubView). NamesRightly k.board.lines sender) (sym made)
+        (rightly_told h.board.lines (outcome h r q).1.board.lines rank hart
+        (answer.Reply (reply.Posted number false)) stamp
+        (grows_after h r q listed) ((a.state.good).names r rank here) tells) in
+        record {
+          cluster = d;
+          arrived = record {
+            ranks = refl;
+            boxes = refl;
+            hub = same_hub_on (hub_of journal) (behind_at_once w r q) (all_arrived (behind w r q)) hub_then
+                (same_hub_back (all_arrived (behind w r q)) (behind_at_once w r q) hub);
+          };
+          good = record {
+            waits = (after.good).waits;
+            names = λ s y at.
+                each_in (λ s y. NamesRightly (hub_of journal).board.lines y) a.now.ranks r sender mine
+                (λ s y at. subst (λ (k : HubView). NamesRightly k.board.lines y) (sym made)
+                (rightly_more h.board.lines (outcome h r q).1.board.lines y (grows_after h r q listed)
+                ((a.state.good).names s y (ap (λ xs. slice_get xs s) a.arrived.ranks ∙ at))))
+                s y (ap (λ x. slice_get (told_so x stamp) s) (sym posted) ∙ at);
+            boxes = λ i box at. (a.state.good).boxes i box (ap (λ bs. slice_get bs i) a.arrived.boxes ∙ at);
+            stands = stands_then (reply_on_way w r q);
+          };
+        }
+      where
+        listed : IsListed q
+        listed = subst IsListed (sym is) tt
+
+        -- it is told of its post, complete or not
+        tells : TellsOnly (may_be_awaited (outcome h r q).1.board.lines) (answer.Reply (reply.Posted number false))
+        tells =
+            tells_named h (laid_after c.journal.links (calls_of c.journal.entries)) r q (subst IsTold (sym is) tt)
+            (reply.Posted number true) (sym (at_hub q).0 ∙ done)
+
   -- ---- in each case
 
   pub behind_it : Behind search new
@@ -350,3 +494,5 @@ module _ (search : Search) (image : ImageParts) (waits_only : OnlyWaits search)
       go (at_once reply hub) = same_behind reply hub
       go (posts comm source tag m is posted got collects hub) =
           waits_behind comm source tag m is posted got collects hub
+      go (completes comm dest tag bytes is posted done hub) =
+          completes_behind comm dest tag bytes is posted done hub

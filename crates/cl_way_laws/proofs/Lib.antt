@@ -1,4 +1,8 @@
 pub mod SameHubs
+pub mod Stricter
+pub mod Ssends
+pub mod LaterSend
+pub mod Complete
 pub mod Near
 pub mod Elsewhere
 pub mod Asking
@@ -10,5 +14,12 @@ pub mod Network
 pub mod Sure
 pub mod Found
 pub mod Reached
+pub mod Meets
 pub mod Told
 pub mod Rows
+pub mod MetSends
+pub mod MetTables
+pub mod MetAsks
+pub mod MetTold
+pub mod MetRows
+pub mod MetStays

@@ -26,10 +26,12 @@ use Rattle.cl_reduction_laws.proofs.Machine.{taken}
 use Rattle.cl_delay_laws.specs.Networks.{IsNetwork, IsTurn, Network, in_vain, same, waits}
 use Rattle.cl_contest_laws.proofs.Homes.{AreHome, IsHome, home_told}
 use Rattle.cl_way_laws.specs.Clusters.{IsArrived, IsElsewhere, WayCluster, WayTurn, arrived_at, at_hub, called_on_way, elsewhere, with_journal}
-use Rattle.cl_contests.specs.Waiting.{OnlyWaits}
-use Rattle.cl_way_laws.proofs.Asking.{GoesAs, at_once, posts, stays}
-use Rattle.cl_way_laws.proofs.AtHub.{after, behind_it, goes, leads, named, ready, same_near, turn, vain_so}
+use Rattle.cl_way_laws.specs.Waiting.{OnlyWaits, SendsBySsend}
+use Rattle.cl_way_laws.proofs.Asking.{GoesAs, at_once, completes, posts, stays}
+use Rattle.cl_way_laws.proofs.AtHub.{after, behind_it, goes, leads, named, ready, same_near, send_leads, send_ready, turn, vain_so}
 use Rattle.cl_way_laws.proofs.Elsewhere.{elsewhere_too, recalled}
+use Rattle.cl_way_laws.proofs.Ssends.{BySsends}
+use Rattle.cl_way_laws.proofs.Stricter.{stricter}
 use Rattle.cl_way_laws.proofs.Near.{IsNear, arrived_near, near_alike, near_itself}
 use Rattle.cl_way_laws.proofs.SameHubs.{same_hub_is, same_hub_itself}
 use Rattle.cl_way_laws.proofs.States.{Behind, WayState, came_by_arrival, came_by_call, each_in}
@@ -47,7 +49,7 @@ module _ (search : Search) (image : ImageParts) (waits_only : OnlyWaits search) 
   hart = search.harts
 
   abbrev pub machine : Machine
-  machine = cluster_machine search
+  machine = stricter (cluster_machine search) (BySsends search)
 
   abbrev pub network : Network machine
   network = record {
@@ -154,44 +156,55 @@ module _ (search : Search) (image : ImageParts) (waits_only : OnlyWaits search) 
 
   module _ (a : WayState search image) (r : ℕ) (within : IsWithin search a.state.cluster r) (rank : Rank) (q : Request)
       (stamp : ℕ)
-      (there : slice_get a.now.ranks r ≡ Some rank) (asks : asked rank (search.harts r) ≡ Ask.Hub q) where
+      (there : slice_get a.now.ranks r ≡ Some rank) (asks : asked rank (search.harts r) ≡ Ask.Hub q)
+      (by : SendsBySsend a.state.cluster r (search.harts r)) where
     abbrev called_new : WayCluster
     called_new = called_on_way a.now r (search.harts r) rank q stamp
 
     pub hub_goes : (b : WayState search image) → IsArrived called_new b.state.cluster → IsTurn machine r a.state b.state
-    hub_goes b two = go (goes search image waits_only a r rank q stamp there asks within)
+    hub_goes b two = go (goes search image waits_only a r rank q stamp there asks within by)
       where
         k : State search
-        k = after search image waits_only a r rank q stamp there asks within
+        k = after search image waits_only a r rank q stamp there asks within by
 
         k_turn : Turn r (search.harts r) a.state.cluster k.cluster
-        k_turn = turn search image waits_only a r rank q stamp there asks within
+        k_turn = turn search image waits_only a r rank q stamp there asks within by
 
         go : GoesAs a.now.way r (waits_on (doing rank.site (part_of rank (search.harts r)))) q
             → IsTurn machine r a.state b.state
         go (stays on_is none still) =
             in_vain (alike_near a.state b.state
-            (vain_so search image waits_only a r rank q stamp there asks within on_is none still b.state.cluster two))
+            (vain_so search image waits_only a r rank q stamp there asks within by on_is none still b.state.cluster
+            two))
         go (at_once reply hub) =
             same k k_turn (alike_near k b.state
-            (same_near search image waits_only a r rank q stamp there asks within reply hub b.state.cluster two))
+            (same_near search image waits_only a r rank q stamp there asks within by reply hub b.state.cluster two))
         go (posts comm source tag m is posted got collects hub) =
             waits k k_turn
-            (ready search image waits_only a r rank q stamp there asks within comm source tag m is posted got collects
+            (ready search image waits_only a r rank q stamp there asks within by comm source tag m is posted got
+            collects
             hub b.state.cluster two)
             (λ last poll. alike_near last k
-            (leads search image waits_only a r rank q stamp there asks within comm source tag m is posted got collects
+            (leads search image waits_only a r rank q stamp there asks within by comm source tag m is posted got
+            collects
+            hub b.state.cluster two last.cluster poll))
+        go (completes comm dest tag bytes is posted done hub) =
+            waits k k_turn
+            (send_ready search image waits_only a r rank q stamp there asks within by comm dest tag bytes is posted done
+            hub b.state.cluster two)
+            (λ last poll. alike_near last k
+            (send_leads search image waits_only a r rank q stamp there asks within by comm dest tag bytes is posted done
             hub b.state.cluster two last.cluster poll))
 
     pub hub_behind : WayState search image
     hub_behind =
-        let d : Behind search called_new = behind_it search image waits_only a r rank q stamp there asks within in
+        let d : Behind search called_new = behind_it search image waits_only a r rank q stamp there asks within by in
         record {
           now = called_new;
           state = record { cluster = d.cluster; good = d.good };
           arrived = d.arrived;
           came = came_by_call image.links a.now.way r q
-              (named search image waits_only a r rank q stamp there asks within) a.came;
+              (named search image waits_only a r rank q stamp there asks within by) a.came;
           home = home_set image a.state.cluster d.cluster r rank _
               (ap (λ xs. slice_get xs r) a.arrived.ranks ∙ there)
               (d.arrived.ranks ∙ ap (λ xs. slice_set xs r
@@ -202,26 +215,28 @@ module _ (search : Search) (image : ImageParts) (waits_only : OnlyWaits search) 
   -- ---- any turn
 
   turn_goes : (r : ℕ) (a b : WayState search image) → IsWithin search a.state.cluster r
+      → SendsBySsend a.state.cluster r (search.harts r)
       → WayTurn r (search.harts r) a.now b.now
       → IsTurn machine r a.state b.state
-  turn_goes r a b within (at_hub rank q stamp there inside asks is) =
-      hub_goes a r within rank q stamp there asks b (subst (λ v. IsArrived v b.state.cluster) is b.arrived)
-  turn_goes r a b within (elsewhere journal e next mine its is leads_there new_is) =
+  turn_goes r a b within by (at_hub rank q stamp there inside asks is) =
+      hub_goes a r within rank q stamp there asks by b (subst (λ v. IsArrived v b.state.cluster) is b.arrived)
+  turn_goes r a b within by (elsewhere journal e next mine its is leads_there new_is) =
       else_goes a r within journal e next mine its is leads_there b
       (subst (λ v. IsArrived v b.state.cluster) new_is b.arrived)
 
   -- where all has arrived behind it
   pub turned : (r : ℕ) (a : WayState search image) (new : WayCluster) → IsWithin search a.state.cluster r
+      → SendsBySsend a.state.cluster r (search.harts r)
       → WayTurn r (search.harts r) a.now new
       → (b : WayState search image) × (b.now ≡ new)
   unfolding hub_behind else_behind
-  turned r a last within (at_hub rank q stamp there inside asks is) =
-      (hub_behind a r within rank q stamp there asks, sym is)
-  turned r a last within (elsewhere journal e next mine its is leads_there new_is) =
+  turned r a last within by (at_hub rank q stamp there inside asks is) =
+      (hub_behind a r within rank q stamp there asks by, sym is)
+  turned r a last within by (elsewhere journal e next mine its is leads_there new_is) =
       (else_behind a r within journal e next mine its is leads_there, sym new_is)
 
   pub is_network : IsNetwork machine network
   is_network = record {
     arrives = λ a b one. alike_near a.state b.state (arrival_near a b one.0 one.1 one.3);
-    goes = λ r a b within room turn. turn_goes r a b within turn;
+    goes = λ r a b within room turn. turn_goes r a b within.0 within.1 turn;
   }

@@ -1,3 +1,4 @@
+pub mod Waiting
 pub mod Clusters
 pub mod Laws
 pub mod Rows
