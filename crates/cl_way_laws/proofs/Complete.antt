@@ -17,6 +17,7 @@ use Rattle.mp_match.proofs.Lines.{add_given, add_new, given}
 use Rattle.mp_match.proofs.OrderKept.{chosen}
 use Rattle.mp_probe.specs.Claims.{next_number}
 use Rattle.mp_hub.specs.Hub.{HubView, is_complete, is_done, outcome, sending, was_received, with_board}
+use Rattle.cl_way_laws.proofs.Posting.{receives}
 
 module _ (h : HubView) (r comm dest tag : ℕ) (bytes : List ℕ) where
   abbrev s : Sent
@@ -44,21 +45,13 @@ module _ (h : HubView) (r comm dest tag : ℕ) (bytes : List ℕ) where
       let e : suc (length lines) ≡ n = omega arith in
       subst (λ k. partner_of after.board k ≡ partner_for lines (Send s)) e (ap partner_of_line (add_new lines (Send s)))
 
-  -- the partner of a send is a receive
-  receives : (line : Line) (p : Post) → line.post ≡ p → may_pair (Send s) p ≡ true → (k : ℕ)
-      → is_receive (Some (given line k)) ≡ true
-  receives line (Receive a) is may k =
-      ap (λ x. is_receive (Some (let l : Line = record { post = x; partner = Some k } in l))) is
-  receives line (Send t) is may k = absurd (cc)
-  receives line (Claim a) is may k = absurd (cc)
-
   has_receive : (place : ℕ) → partner_for lines (Send s) ≡ Some place
       → is_receive_at after.board (partner_of after.board n) ≡ true
   has_receive place e =
       let c = chosen lines (Send s) place e in
       ap (is_receive_at after.board) (partner_is ∙ e)
       ∙ ap is_receive (add_given lines (Send s) place c.line c.here e)
-      ∙ receives c.line c.line.post refl c.pair (length lines)
+      ∙ receives s c.line c.line.post refl c.pair (length lines)
 
   complete : (place : ℕ) → partner_for lines (Send s) ≡ Some place → is_complete after n ≡ true
   complete place e =

@@ -36,7 +36,7 @@ use Rattle.cl_state.specs.Told.{ended, returned, told, told_row, waiting, with_p
 use Rattle.cl_state.specs.Transfers.{asked_transfer}
 use Rattle.cl_names_laws.proofs.Told.{row_at}
 use Rattle.cl_post_laws.proofs.Renamed.{by_row}
-use Rattle.cl_way_laws.specs.Waiting.{IsSsend}
+use Rattle.cl_way_laws.proofs.SyncSends.{IsSsend}
 
 -- ---- the call that a hart makes is the one that its registers name
 
@@ -114,7 +114,7 @@ module _ (rank : Rank) (hart : ℕ) (q : Request) (there : hart < length rank.ha
   abbrev posted : ℕ → ℕ → Rank
   posted post before = with_part rank hart (waiting post part) before
 
-  posted_is : (post before : ℕ)
+  pub posted_is : (post before : ℕ)
       → told rank hart (answer.Reply (reply.Posted post false)) before ≡ posted post before
   posted_is post before =
       by_row rank hart (answer.Reply (reply.Posted post false)) before

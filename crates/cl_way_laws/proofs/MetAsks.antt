@@ -30,7 +30,7 @@ use Rattle.cl_state.specs.Partitions.{asked_arrived, asked_ready, awaited, await
 use Rattle.cl_state.specs.Pending.{pending_of}
 use Rattle.cl_state.specs.Rank.{Rank}
 use Rattle.cl_state.specs.Several.{asked_all, pendings, posts_pending}
-use Rattle.cl_way_laws.proofs.MetSends.{met_by, met_open, met_state, met_table}
+use Rattle.cl_way_laws.specs.Met.{met_by, met_open, met_state, met_table}
 use Rattle.cl_way_laws.proofs.MetTables.{checks_met, receiving_met, request_met, sending_met}
 
 abbrev pub met_part : (ℕ → Bool) → Part → Part

@@ -34,7 +34,7 @@ use Rattle.cl_state.specs.Told.{told, told_row, with_part}
 use Rattle.cl_state.proofs.Forms.{by_form}
 use Rattle.cl_names_laws.proofs.Told.{row_at}
 use Rattle.cl_post_laws.proofs.Renamed.{by_row}
-use Rattle.cl_way_laws.proofs.MetSends.{met_by, met_open, met_progress, met_table}
+use Rattle.cl_way_laws.specs.Met.{met_by, met_open, met_progress, met_table}
 use Rattle.cl_way_laws.proofs.MetAsks.{AllNeedSame, CallsSame, DoesSame, NeedsSame, awaited_met, doing_met, met_part}
 use Rattle.cl_way_laws.proofs.MetTables.{receiving_met, request_met, sending_met}
 use Rattle.cl_way_laws.proofs.MetTold.{IsFixedRow, Unmet, row_by}
@@ -193,10 +193,10 @@ module _ (d : ℕ → Bool) where
 
   -- ---- a rank
 
-  part_met : (rank : Rank) (hart : ℕ) → part_of (met_by d rank) hart ≡ met_part d (part_of rank hart)
+  pub part_met : (rank : Rank) (hart : ℕ) → part_of (met_by d rank) hart ≡ met_part d (part_of rank hart)
   part_met rank hart = refl
 
-  with_met : (rank : Rank) (hart : ℕ) (part : Part) (stamp : ℕ)
+  pub with_met : (rank : Rank) (hart : ℕ) (part : Part) (stamp : ℕ)
       → with_part (met_by d rank) hart (met_part d part) stamp ≡ met_by d (with_part rank hart part stamp)
   with_met rank hart part stamp = refl
 
@@ -217,7 +217,7 @@ module _ (d : ℕ → Bool) where
           ∙ row_by d site (row_in site hart part.memory part.requests part.phases does) a part
           (row_fixed site hart part.memory part.requests part.phases does same) unmet
 
-  row_at_met : (rank : Rank) (hart : ℕ)
+  pub row_at_met : (rank : Rank) (hart : ℕ)
       → row_at (met_by d rank) hart
       ≡ row_in rank.site hart rank.memory (met_table d rank.requests) rank.phases (doing rank.site (part_of rank hart))
   row_at_met rank hart =

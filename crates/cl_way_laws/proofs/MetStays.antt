@@ -11,7 +11,7 @@ use Rattle.mp_match.specs.Pairs.{add, partner_for}
 use Rattle.mp_match.proofs.Lines.{add_given, add_old}
 use Rattle.mp_match.proofs.OrderKept.{chosen}
 use Rattle.mp_match.proofs.Places.{get_within}
-use Rattle.cl_way_laws.proofs.MetSends.{is_before, is_met, is_met_line, is_sync_of}
+use Rattle.cl_way_laws.specs.Met.{is_before, is_met, is_met_line, is_sync_of}
 
 module _ (lines : List Line) (p : Post) where
   is_partner : (place : ℕ) (o : Option ℕ) → (o ≡ Some place) ⊎ (o ≡ Some place → ⊥)

@@ -22,7 +22,7 @@ use Rattle.mp_types.specs.declared.codes.Code.TheVariants.{BadCall, BadRequest, 
 use Rattle.mp_types.specs.declared.codes.Code.TheVariants.{Active as CodeActive}
 use Rattle.mp_request.specs.declared.entries.Transfer.{Transfer}
 use Rattle.cl_calls.specs.Handles.{handles_in}
-use Rattle.cl_way_laws.proofs.MetSends.{met_open, met_progress, met_state, met_table}
+use Rattle.cl_way_laws.specs.Met.{met_open, met_progress, met_state, met_table}
 
 module _ (d : ℕ → Bool) where
   at_by : (table : Table) (place : ℕ)

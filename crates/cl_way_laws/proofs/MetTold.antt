@@ -49,7 +49,7 @@ use Rattle.cl_state.specs.Told.{arrived, arrived_from, completed_all, cut_known,
 use Rattle.cl_state.specs.Transfers.{posted}
 use Rattle.std.specs.Prelude.{cond}
 use Rattle.mp_request.specs.declared.entries.Progress.{Progress}
-use Rattle.cl_way_laws.proofs.MetSends.{met_open, met_progress, met_table}
+use Rattle.cl_way_laws.specs.Met.{met_open, met_progress, met_table}
 use Rattle.cl_way_laws.proofs.MetAsks.{AllNeedSame, met_part}
 use Rattle.cl_way_laws.proofs.MetTables.{completed_met, free_met, started_met, with_met}
 
@@ -67,7 +67,7 @@ module _ (d : ℕ → Bool) where
   ended_by c v part = refl
 
   -- a call ends with other requests
-  ends_with : (c : Code) (v : ℕ) (hart : State) (memory : Memory) (t u : Table) (phases : List Phase) (out : List ℕ)
+  pub ends_with : (c : Code) (v : ℕ) (hart : State) (memory : Memory) (t u : Table) (phases : List Phase) (out : List ℕ)
       → t ≡ met_table d u
       → ended c v (part_with hart memory t phases out)
       ≡ met_part d (ended c v (part_with hart memory u phases out))
@@ -88,7 +88,7 @@ module _ (d : ℕ → Bool) where
 
   -- ---- messages
 
-  received_by : (target : Target) (source tag : ℕ) (bytes : List ℕ) (part : Part)
+  pub received_by : (target : Target) (source tag : ℕ) (bytes : List ℕ) (part : Part)
       → Named (received target source tag bytes) part
   unfolding received
   received_by target source tag bytes part =
@@ -105,16 +105,21 @@ module _ (d : ℕ → Bool) where
   message_by site target message part =
       from_by (position_of message.envelope.source (members site message.envelope.comm)) target message part
 
-  opened_by : (r : OpenRequest) (part : Part) → met_open d r ≡ r → Named (opened r) part
-  opened_by r part same =
-      ap (λ o. opened_at o r (met_part d part)) (free_met d part.requests) ∙ go (lowest_free part.requests)
+  -- a request that is opened is one that is complete
+  pub opens_by : (r other : OpenRequest) (part : Part) → met_open d r ≡ other
+      → opened other (met_part d part) ≡ met_part d (opened r part)
+  opens_by r other part same =
+      ap (λ o. opened_at o other (met_part d part)) (free_met d part.requests) ∙ go (lowest_free part.requests)
     where
-      go : (o : Option ℕ) → Named (opened_at o r) part
+      go : (o : Option ℕ) → opened_at o other (met_part d part) ≡ met_part d (opened_at o r part)
       go None = ended_by code.Full 0 part
       go (Some handle) =
           ends_with code.Ok handle part.hart part.memory _ _ part.phases part.out
           (ap (λ x. with_request (met_table d part.requests) handle (Some x)) (sym same)
           ∙ with_met d part.requests handle (Some r))
+
+  opened_by : (r : OpenRequest) (part : Part) → met_open d r ≡ r → Named (opened r) part
+  opened_by r part same = opens_by r r part same
 
   freed_by : (handle : ℕ) (part : Part) → Named (freed handle) part
   unfolding freed
@@ -312,8 +317,9 @@ module _ (d : ℕ → Bool) where
 
   waits_kept : (post : ℕ) → d post ≡ false → (u : Transfer) → met_progress d u (progress.OnPost post)
       ≡ progress.OnPost post
-  waits_kept post none (transfer.Send sync buffer count dest tag comm) =
+  waits_kept post none (transfer.Send true buffer count dest tag comm) =
       ap (λ b. cond b progress.Finished (progress.OnPost post)) none
+  waits_kept post none (transfer.Send false buffer count dest tag comm) = refl
   waits_kept post none transfer.SendToNull = refl
   waits_kept post none transfer.ReceiveFromNull = refl
   waits_kept post none (transfer.Receive buffer capacity source tag comm) = refl

@@ -5,7 +5,7 @@ use Rattle.rv_image_types.specs.declared.images.ImageParts.{ImageParts}
 use Rattle.mp_way_laws.specs.Way.{all_arrived}
 use Rattle.cl_state.specs.Rank.{Rank}
 use Rattle.cl_machine.specs.Cluster.{Cluster, loaded_cluster}
-use Rattle.cl_order_laws.specs.Closed.{Node, Plans, none_had}
+use Rattle.cl_order_laws.specs.Closed.{Node, Plans}
 use Rattle.cl_deadlock_laws.proofs.Reached.{comes_reached}
 use Rattle.cl_schedule_laws.specs.Machines.{GoesOn, IsMachine, Machine}
 use Rattle.cl_schedule_laws.specs.Laws.{IsFound, IsLasting}
@@ -18,17 +18,18 @@ use Rattle.cl_contest_laws.specs.Lists.{IsOneOf}
 use Rattle.cl_contest_laws.proofs.Homes.{AreHome, home_of}
 use Rattle.cl_contest_laws.proofs.Kept.{AreClosed, Anything, anything_lasts, found, kept}
 use Rattle.cl_contest_laws.proofs.Lists.{list_closed, planned_of}
-use Rattle.cl_contest_laws.proofs.Walks.{IsPlanned, by_plans}
+use Rattle.cl_contest_laws.proofs.Walks.{IsPlanned}
 use Rattle.cl_way_laws.specs.Clusters.{HappensOnWay, IsArrived, IsWayRun, WayCluster, WayEvent, WayTurn, arrives, at_hub, elsewhere, turn, way_loaded}
 use Rattle.cl_way_laws.specs.Laws.{IsSearched}
-use Rattle.cl_way_laws.specs.Waiting.{SendsBySsend}
+use Rattle.cl_way_laws.specs.Met.{met}
 use Rattle.cl_way_laws.proofs.Found.{found_along, found_matched, within_matched}
-use Rattle.cl_way_laws.proofs.Near.{arrived_near, good_too, near_alike, near_itself}
+use Rattle.cl_way_laws.proofs.MetHomes.{all_none}
+use Rattle.cl_way_laws.proofs.MetRanks.{there_met}
+use Rattle.cl_way_laws.proofs.Near.{arrived_near, good_too, near_alike}
 use Rattle.cl_way_laws.proofs.Network.{arrived_behind, is_network, network, turned}
+use Rattle.cl_way_laws.proofs.Posting.{lines_now}
 use Rattle.cl_way_laws.proofs.SameHubs.{same_hub_itself}
 use Rattle.cl_way_laws.proofs.States.{WayState}
-use Rattle.cl_way_laws.proofs.Ssends.{BySsends, by_ssends}
-use Rattle.cl_way_laws.proofs.Stricter.{IsOwn, is_stricter, lasts_too, matched_back, stays_too, stricter, sure_too}
 use Rattle.cl_way_laws.proofs.Sure.{polls_sure}
 
 -- one event more at the end
@@ -47,21 +48,11 @@ module _ (search : Search) (plans : Plans) (nodes : List Node) (image : ImagePar
     abbrev pub m : Machine
     m = cluster_machine search
 
+    abbrev pub n : Network m
+    n = network search image searched.waits
+
     pub is : IsMachine m
     is = cluster_machine_law search
-
-    -- the same machine, where a rank that sends synchronously does so by SSEND, and its network
-    abbrev own : IsOwn m (BySsends search)
-    own = by_ssends search
-
-    abbrev strict : Machine
-    strict = stricter m (BySsends search)
-
-    abbrev far : Network strict
-    far = network search image searched.waits
-
-    abbrev pub n : Network m
-    n = record { State = far.State; Goes = far.Goes; Arrives = far.Arrives; arrived = far.arrived }
 
     abbrev pub planned : IsPlanned search plans
     planned = planned_of search plans (loaded_cluster image) (searched.well).single
@@ -78,7 +69,7 @@ module _ (search : Search) (plans : Plans) (nodes : List Node) (image : ImagePar
       now = way_loaded image;
       state = first;
       arrived = record {
-        ranks = refl;
+        ranks = sym (all_none (loaded_cluster image).ranks);
         boxes = refl;
         hub = record { links = refl; lines = refl; bodies = refl; claims = refl; sides = refl };
       };
@@ -96,48 +87,29 @@ module _ (search : Search) (plans : Plans) (nodes : List Node) (image : ImagePar
     stays : StaysWithin m first
     stays rs end walk = (let f = finds (Anything search) (anything_lasts search) rs end walk in (f.within, f.room))
 
-    -- wherever turns lead a rank sends by SSEND
-    sends : (rs : List ℕ) (end : State search) → GoesOn m rs first end → (r : ℕ) → BySsends search end r
-    sends rs end walk r =
-        let g = by_plans search plans planned rs first end none_had walk in
-        subst (λ c. SendsBySsend c r (search.harts r)) g.2 (searched.sends rs g.0 g.1 r)
-
-    stays_strict : StaysWithin strict first
-    stays_strict = stays_too m (BySsends search) is own first stays sends
-
     -- ---- one event more
 
     -- events lead here
     pub record Reached (v : WayCluster) : Type 0 where
       pub events : List Event
       pub here : WayState search image
-      pub on : HappenOn strict far events first_way here
+      pub on : HappenOn m n events first_way here
       pub is_here : here.now ≡ v
-
-    matched_strict : (v : WayCluster) (k : Reached v) → IsMatched strict far (Anything search) first k.here
-    matched_strict v k =
-        are_matched strict far (is_stricter m (BySsends search) is own)
-        (sure_too m (BySsends search) is own (polls_sure search)) (is_network search image searched.waits)
-        (Anything search)
-        (lasts_too m (BySsends search) is own (Anything search) (lasts_of m (Anything search) (anything_lasts search)))
-        first_way k.here k.events stays_strict k.on
 
     pub matched : (v : WayCluster) (k : Reached v) → IsMatched m n (Anything search) first k.here
     matched v k =
-        matched_back m (BySsends search) is own n far (Anything search) first k.here k.here refl (matched_strict v k)
+        are_matched m n is (polls_sure search) (is_network search image searched.waits) (Anything search)
+        (lasts_of m (Anything search) (anything_lasts search)) first_way k.here k.events stays k.on
 
-    within_there : (v : WayCluster) (k : Reached v) (r : ℕ)
-        → IsWithin search k.here.state.cluster r × BySsends search k.here.state r
+    pub within_there : (v : WayCluster) (k : Reached v) (r : ℕ) → IsWithin search k.here.state.cluster r
     within_there v k r =
-        within_matched strict (is_stricter m (BySsends search) is own)
-        (sure_too m (BySsends search) is own (polls_sure search)) far (Anything search) first k.here stays_strict
-        (matched_strict v k) r
+        within_matched m is (polls_sure search) n (Anything search) first k.here stays (matched v k) r
 
     -- each rank has one hart
     one_hart : (a : WayState search image) (r hart : ℕ) (rank : Rank) → slice_get a.now.ranks r ≡ Some rank
         → hart < length rank.harts → hart ≡ search.harts r
     one_hart a r hart rank there inside =
-        let one = (a.home r rank (ap (λ xs. slice_get xs r) a.arrived.ranks ∙ there)).one in
+        let one = (a.home r (met (lines_now a.now.way) rank) (there_met search image a r rank there)).one in
         let none = (searched.well).single.harts r in
         omega (arith, one, none, inside)
 
@@ -151,14 +123,13 @@ module _ (search : Search) (plans : Plans) (nodes : List Node) (image : ImagePar
     one_more : (v : WayCluster) (k : Reached v) (e : WayEvent) (w : WayCluster) → HappensOnWay k.here.now e w
         → Reached w
     one_more v k (turn r hart) w goes =
-        let mine = subst (λ x. WayTurn r x k.here.now w) (own_hart k.here r hart w goes) goes in
-        let w_r = within_there v k r in
-        let b = turned search image searched.waits r k.here w w_r.0 w_r.1 mine in
+        let own = subst (λ x. WayTurn r x k.here.now w) (own_hart k.here r hart w goes) goes in
+        let b = turned search image searched.waits r k.here w (within_there v k r) own in
         record {
           events = k.events ++ turn_of r ∷ [];
           here = b.0;
-          on = happened strict far k.events (turn_of r) first_way k.here b.0 k.on
-              (subst (λ x. WayTurn r (search.harts r) k.here.now x) (sym b.1) mine);
+          on = happened m n k.events (turn_of r) first_way k.here b.0 k.on
+              (subst (λ x. WayTurn r (search.harts r) k.here.now x) (sym b.1) own);
           is_here = b.1;
         }
     one_more v k (arrives place sent) w goes =
@@ -166,7 +137,7 @@ module _ (search : Search) (plans : Plans) (nodes : List Node) (image : ImagePar
         record {
           events = k.events ++ arrival ∷ [];
           here = b.0;
-          on = happened strict far k.events arrival first_way k.here b.0 k.on (place, sent, goes.0, b.1 ∙ goes.1);
+          on = happened m n k.events arrival first_way k.here b.0 k.on (place, sent, goes.0, b.1 ∙ goes.1);
           is_here = b.1;
         }
 
@@ -196,7 +167,7 @@ module _ (search : Search) (plans : Plans) (nodes : List Node) (image : ImagePar
         pub alike_there : m.Alike there k.here.state
         alike_there =
             near_alike search.wild c k.here.state.cluster (there.good).boxes
-            (arrived_near w w c k.here.state.cluster arrived arrived_there (near_itself w.ranks) refl
+            (arrived_near w w c k.here.state.cluster arrived arrived_there refl refl
             (same_hub_itself (all_arrived w.way)))
 
         -- turns of the machine lead to a node

@@ -70,7 +70,7 @@ pub record WayState (search : Search) (image : ImageParts) : Type 0 where
   pub came : IsCameTo image.links now.way
   pub home : AreHome image state.cluster
 
--- where all has arrived behind a turn
+-- where all has arrived
 pub record Behind (search : Search) (v : WayCluster) : Type 0 where
   pub cluster : Cluster
   pub arrived : IsArrived v cluster

@@ -13,17 +13,14 @@ use Rattle.cl_reduction_laws.specs.Settled.{IsSettled}
 use Rattle.cl_contest_laws.specs.Laws.{HasAlikeEnd, HasNeed}
 use Rattle.cl_contest_laws.specs.Lists.{IsClosedByContest, IsOneOf, StartsWell}
 use Rattle.cl_way_laws.specs.Clusters.{IsArrived, IsWayEnd, IsWayRun, WayCluster, WayEvent, way_loaded}
-use Rattle.cl_way_laws.specs.Waiting.{OnlyWaits, SendsBySsend}
+use Rattle.cl_way_laws.specs.Waiting.{OnlyWaits}
 
 abbrev pub loaded_node : ImageParts → Node
 loaded_node image = record { cluster = loaded_cluster image; had = none_had }
 
--- a search of the image that left no state, of a program that only waits for named ranks. Wherever turns of the machine
--- lead on which messages arrive at once, a rank that sends synchronously does so by SSEND
+-- a search of the image that left no state, of a program that only waits for named ranks
 pub record IsSearched (search : Search) (plans : Plans) (nodes : List Node) (image : ImageParts) : Type 0 where
   pub waits : OnlyWaits search
-  pub sends : (ranks : List ℕ) (here : Node) → GoesOn plans ranks (loaded_node image) here
-      → (r : ℕ) → SendsBySsend here.cluster r (search.harts r)
   pub well : StartsWell search plans (loaded_cluster image)
   pub settled : IsSettled search (IsOneOf nodes) (loaded_cluster image)
   pub closed : IsClosedByContest search plans nodes

@@ -42,7 +42,7 @@ is_met lines rank (suc place) = is_met_line lines rank place (slice_get lines pl
 -- ---- a rank whose requests of such sends are complete
 
 abbrev pub met_progress : (ℕ → Bool) → Transfer → Progress → Progress
-met_progress is (transfer.Send sync buffer count dest tag comm) (OnPost post) = cond (is post) Finished (OnPost post)
+met_progress is (transfer.Send sync buffer count dest tag comm) (OnPost post) = cond (sync && is post) Finished (OnPost post)
 met_progress is t progress = progress
 
 abbrev pub met_state : (ℕ → Bool) → Transfer → State → State
