@@ -91,7 +91,7 @@ none_named d memory table (Go (call.Waitall s)) none = none
 none_named d memory table _ none = tt
 
 -- it does the same once all has arrived, or waits for a send that is complete then
-pub same_or_waits : (d : ℕ → Bool) (rank : Rank) (hart : ℕ) → polls_complete (met_by d rank) hart ≡ false
+same_or_waits : (d : ℕ → Bool) (rank : Rank) (hart : ℕ) → polls_complete (met_by d rank) hart ≡ false
     → gathers_complete (met_by d rank) hart ≡ false
     → DoesSame d rank.memory rank.requests (doing rank.site (part_of rank hart))
     ⊎ WaitsForMet d rank.requests (doing rank.site (part_of rank hart))
@@ -101,6 +101,18 @@ same_or_waits d rank hart polls gathers =
     (ap (polls_complete_in rank.memory (met_table d rank.requests)) (sym same) ∙ polls)
     (none_named d rank.memory (met_table d rank.requests) (doing rank.site (part_of rank hart))
     (ap (gathers_complete_in rank.memory (met_table d rank.requests)) (sym same) ∙ gathers))
+
+-- in a cluster in which each rank asks within the patterns: it is here alone that no rank polls or gathers what was complete as it
+-- was made
+pub same_within : (search : Search) → OnlyWaits search → (c : Cluster) (r : ℕ) → IsWithin search c r → (lines : List Line)
+    (x : Rank)
+    → slice_get c.ranks r ≡ Some (met lines x)
+    → DoesSame (is_met lines x.site.number) x.memory x.requests (doing x.site (part_of x (search.harts r)))
+    ⊎ WaitsForMet (is_met lines x.site.number) x.requests (doing x.site (part_of x (search.harts r)))
+same_within search waits_only c r within lines x here =
+    same_or_waits (is_met lines x.site.number) x (search.harts r)
+    (waits_only.polls_of_complete c r within (met lines x) here)
+    (waits_only.gathers_of_complete c r within (met lines x) here)
 
 pub unmet_reply : (d : ℕ → Bool) (x : Reply) → ((n : ℕ) (b : Bool) → x ≡ reply.Posted n b → d n ≡ false)
     → Unmet d (answer.Reply x)

@@ -38,7 +38,7 @@ use Rattle.cl_way_laws.proofs.MetAsks.{DoesSame, asks_met}
 use Rattle.cl_way_laws.proofs.MetCalls.{call_behind, call_goes, call_named}
 use Rattle.cl_way_laws.proofs.MetHomes.{home_back, home_met}
 use Rattle.cl_way_laws.proofs.MetNeeds.{WaitsForMet, wait_asks}
-use Rattle.cl_way_laws.proofs.MetRanks.{ranks_told, same_or_waits, there_met, told_alone}
+use Rattle.cl_way_laws.proofs.MetRanks.{ranks_told, same_within, there_met, told_alone}
 use Rattle.cl_way_laws.proofs.MetTold.{Unmet}
 use Rattle.cl_way_laws.proofs.MetWaits.{q_is, wait_behind, wait_goes}
 use Rattle.cl_way_laws.proofs.Near.{IsNear, arrived_near, near_alike}
@@ -117,13 +117,10 @@ module _ (search : Search) (image : ImageParts) (waits_only : OnlyWaits search) 
     abbrev does : Doing
     does = doing x.site (part_of x (search.harts r))
 
-    -- no rank polls what was complete as it was made: here that is used
     choice : DoesSame d x.memory x.requests does ⊎ WaitsForMet d x.requests does
     choice =
-        let here = there_met search image a r x there in
-        same_or_waits d x (search.harts r)
-        (waits_only.polls_of_complete a.state.cluster r within (met (lines_now a.now.way) x) here)
-        (waits_only.gathers_of_complete a.state.cluster r within (met (lines_now a.now.way) x) here)
+        same_within search waits_only a.state.cluster r within (lines_now a.now.way) x
+        (there_met search image a r x there)
 
     -- ---- a call
 

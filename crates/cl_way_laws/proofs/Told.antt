@@ -47,7 +47,7 @@ use Rattle.cl_way_laws.proofs.AllCame.{vain_now}
 use Rattle.cl_way_laws.proofs.Asking.{names_source}
 use Rattle.cl_way_laws.proofs.MetAsks.{DoesSame, asks_met, doing_met}
 use Rattle.cl_way_laws.proofs.MetNeeds.{WaitsForMet, wait_asks}
-use Rattle.cl_way_laws.proofs.MetRanks.{same_or_waits}
+use Rattle.cl_way_laws.proofs.MetRanks.{same_within}
 use Rattle.cl_way_laws.proofs.Posting.{met_is_done}
 use Rattle.cl_way_laws.proofs.Reached.{Reached, alike_there, are_closed, arrived_there, finds_there, first, home_there, is, matched, planned, reached, there}
 use Rattle.cl_way_laws.proofs.SameHubs.{same_call}
@@ -136,10 +136,7 @@ module _ (search : Search) (plans : Plans) (nodes : List Node) (image : ImagePar
     choice : (r : ℕ) (x : Rank) → slice_get c.ranks r ≡ Some (met lines x)
         → DoesSame (d x) x.memory x.requests (doing x.site (part_of x (search.harts r)))
         ⊎ WaitsForMet (d x) x.requests (doing x.site (part_of x (search.harts r)))
-    choice r x at =
-        same_or_waits (d x) x (search.harts r)
-        (searched.waits.polls_of_complete c r (λ z at. found_node.within r z at) (met lines x) at)
-        (searched.waits.gathers_of_complete c r (λ z at. found_node.within r z at) (met lines x) at)
+    choice r x at = same_within search searched.waits c r (λ z at. found_node.within r z at) lines x at
 
     -- it waits for what isn't there, or for what has arrived, which it would be told
     rests_so : (r : ℕ) (x : Rank) → slice_get w.ranks r ≡ Some x → slice_get c.ranks r ≡ Some (met lines x)
