@@ -51,7 +51,7 @@ use Rattle.cl_reduction_laws.proofs.Good.{IsListed, IsTold, good_after, grows_af
 use Rattle.cl_reduction_laws.proofs.Naming.{rightly_more, rightly_told}
 use Rattle.cl_contest_laws.proofs.Good.{good_alike}
 use Rattle.cl_way_laws.specs.Waiting.{OnlyWaits}
-use Rattle.cl_way_laws.proofs.Asking.{GoesAs, at_once, completes, goes_as, names_source, not_posted, posts, stays}
+use Rattle.cl_way_laws.proofs.Asking.{GoesAs, goes_as, names_source, not_posted}
 use Rattle.cl_way_laws.proofs.Complete.{asked_still, complete_still}
 use Rattle.cl_way_laws.proofs.LaterSend.{later as send_later, polls as send_polls, waits as send_waits}
 use Rattle.cl_way_laws.proofs.Near.{AreNear, IsNear, near_alike, told_near, vain_near}

@@ -8,12 +8,11 @@ use Rattle.mp_types.specs.declared.replies.Reply.{Reply}
 use Rattle.mp_types.specs.declared.replies.Reply.TheVariants as reply
 use Rattle.mp_types.specs.declared.requests.Request.TheVariants as request
 use Rattle.mp_match.specs.declared.posts.Line.{Line}
-use Rattle.mp_match.specs.declared.posts.Post.{Post}
-use Rattle.mp_match.specs.declared.posts.Post.TheVariants.{Claim, Receive, Send}
+use Rattle.mp_match.specs.declared.posts.Post.TheVariants.{Send}
 use Rattle.mp_match.specs.declared.posts.Sent.{Sent}
 use Rattle.mp_match.specs.Board.{held_count, is_receive, is_receive_at, is_send_of, is_standard, claim_of, line_of, partner_of, send_posted}
-use Rattle.mp_match.specs.Pairs.{may_pair, partner_for, partner_of_line}
-use Rattle.mp_match.proofs.Lines.{add_given, add_new, given}
+use Rattle.mp_match.specs.Pairs.{partner_for, partner_of_line}
+use Rattle.mp_match.proofs.Lines.{add_given, add_new}
 use Rattle.mp_match.proofs.OrderKept.{chosen}
 use Rattle.mp_probe.specs.Claims.{next_number}
 use Rattle.mp_hub.specs.Hub.{HubView, is_complete, is_done, outcome, sending, was_received, with_board}

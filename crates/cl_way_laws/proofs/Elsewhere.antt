@@ -1,5 +1,5 @@
 -- Turns that don't ask the hub.
-use Rattle.std.proofs.Common.{◌≡◌, ◌∙◌, ℕ, inl, inr, refl, sym, ap, Bool, List, Some}
+use Rattle.std.proofs.Common.{◌≡◌, ◌∙◌, ℕ, inl, inr, sym, ap, Bool, List}
 use Rattle.std.specs.List.{slice_set}
 use Rattle.mp_types.specs.declared.requests.Request.{Request}
 use Rattle.cl_state.specs.declared.asking.Answer.{Answer}

@@ -1,5 +1,5 @@
 -- A call on the way of a rank that does the same once all has arrived.
-use Rattle.std.proofs.Common.{◌≡◌, ◌∙◌, ℕ, ◌⊎◌, inl, inr, refl, sym, ap, subst, Bool, true, false, List, Option, length, Some}
+use Rattle.std.proofs.Common.{◌≡◌, ◌∙◌, ℕ, ◌⊎◌, inl, inr, sym, ap, subst, Bool, true, false, List, Option, Some}
 use Rattle.std.specs.List.{slice_get, slice_set}
 use Rattle.rv_image_types.specs.declared.images.ImageParts.{ImageParts}
 use Rattle.mp_types.specs.declared.replies.Reply.{Reply}
@@ -32,7 +32,7 @@ use Rattle.cl_way_laws.proofs.MetRanks.{opens_then, ranks_behind, there_met, tol
 use Rattle.cl_way_laws.proofs.Near.{IsNear, near_alike}
 use Rattle.cl_way_laws.proofs.Posting.{PostsAs, lines_behind, lines_now, met_then, posts_as, unmet, unmet_receive}
 use Rattle.cl_way_laws.proofs.States.{Behind, WayState}
-use Rattle.cl_way_laws.proofs.SyncSends.{IsSsend, IsSync, LeavesRequest, SendsNow, ssend_or_leaves, sync_of}
+use Rattle.cl_way_laws.proofs.SyncSends.{IsSsend, LeavesRequest, SendsNow, ssend_or_leaves, sync_of}
 
 pub alike_of : (search : Search) (a b : State search) → IsNear a.cluster b.cluster → (cluster_machine search).Alike a b
 alike_of search a b near = near_alike search.wild a.cluster b.cluster (a.good).boxes near

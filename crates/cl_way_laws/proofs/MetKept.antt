@@ -1,6 +1,6 @@
 -- A rank whose synchronous sends are complete stays the same as a post is made: it names only posts that were made before.
-use Rattle.std.proofs.Common.{◌≡◌, ◌∙◌, ℕ, zero, suc, ◌<◌, ◌≤◌, inl, inr, refl, sym, ap, subst, arith, Bool, true, false, List, [], ◌∷◌, length, Option, Some, None}
-use Rattle.std.specs.Prelude.{cond, map, nat_lt}
+use Rattle.std.proofs.Common.{◌≡◌, ◌∙◌, ℕ, zero, suc, ◌<◌, ◌≤◌, inl, inr, refl, ap, arith, Bool, true, false, List, [], ◌∷◌, length, Option, Some, None}
+use Rattle.std.specs.Prelude.{cond, nat_lt}
 use Rattle.std.specs.List.{slice_get}
 use Rattle.std.specs.Option.{option_map}
 use Rattle.std.proofs.lemmas.Bool.{cases_Bool, ltb-true, ltb-false}
@@ -18,10 +18,10 @@ use Rattle.mp_request.specs.declared.entries.State.TheVariants.{Ordinary, Inacti
 use Rattle.mp_request.specs.declared.entries.Transfer.{Transfer}
 use Rattle.mp_request.specs.declared.entries.Transfer.TheVariants as transfer
 use Rattle.mp_request.specs.Table.{Table}
-use Rattle.cl_names_laws.specs.Named.{open_by, progress_by, rank_by, state_by, table_by}
+use Rattle.cl_names_laws.specs.Named.{open_by, progress_by, state_by, table_by}
 use Rattle.cl_post_laws.specs.Laws.{NamesBelow}
 use Rattle.cl_state.specs.Rank.{Rank}
-use Rattle.cl_way_laws.specs.Met.{is_met, is_met_line, met, met_by, met_open, met_progress, met_state, met_table}
+use Rattle.cl_way_laws.specs.Met.{is_met, is_met_line, met, met_open, met_progress, met_state, met_table}
 use Rattle.cl_way_laws.proofs.MetStays.{met_stays}
 
 -- ---- the first so many posts

@@ -7,16 +7,11 @@ use Rattle.rv_memory.specs.Memory.{Memory}
 use Rattle.mp_types.specs.declared.replies.Reply.{Reply}
 use Rattle.mp_types.specs.declared.replies.Reply.TheVariants as reply
 use Rattle.mp_types.specs.declared.requests.Request.{Request}
-use Rattle.mp_types.specs.declared.requests.Request.TheVariants as request
 use Rattle.mp_match.specs.declared.posts.Line.{Line}
-use Rattle.mp_match.specs.declared.posts.Post.{Post}
 use Rattle.mp_match.specs.declared.posts.Post.TheVariants.{Receive, Send}
-use Rattle.mp_match.specs.Pairs.{add}
 use Rattle.mp_request.specs.Table.{Table, request_at}
 use Rattle.mp_hub.specs.Hub.{selecting, sending}
 use Rattle.mp_way_laws.specs.Way.{WayView}
-use Rattle.mp_way_laws.specs.Runs.{NamesSource}
-use Rattle.mp_way_laws.specs.Answers.{behind, reply_at_once, reply_on_way}
 use Rattle.cl_calls.specs.declared.calls.Call.TheVariants as call
 use Rattle.cl_calls.specs.Handles.{handles_in}
 use Rattle.cl_calls.specs.Needs.{array_at}
@@ -27,12 +22,11 @@ use Rattle.cl_state.specs.declared.asking.Doing.{Doing}
 use Rattle.cl_state.specs.declared.asking.Doing.TheVariants.{Go}
 use Rattle.cl_state.specs.Asked.{asked, doing, part_of}
 use Rattle.cl_state.specs.Pending.{pending_of}
-use Rattle.cl_state.specs.Rank.{Rank, loaded}
+use Rattle.cl_state.specs.Rank.{Rank}
 use Rattle.cl_state.specs.Several.{pendings}
 use Rattle.cl_state.specs.Told.{told}
 use Rattle.cl_state.proofs.Moves.{told_at}
 use Rattle.cl_machine.specs.Cluster.{Cluster}
-use Rattle.cl_order_laws.specs.Alike.{hub_of}
 use Rattle.cl_first_laws.specs.Below.{NamesBelow}
 use Rattle.cl_reduction_laws.specs.Clusters.{IsWithin, NamesRightly, Search}
 use Rattle.cl_reduction_laws.specs.Complete.{polls_complete, polls_complete_in}

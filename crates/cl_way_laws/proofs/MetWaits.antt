@@ -1,5 +1,5 @@
 -- A WAIT on the way for a synchronous send that is complete once all has arrived.
-use Rattle.std.proofs.Common.{◌≡◌, ◌∙◌, ℕ, ◌+◌, ◌<◌, ◌⊎◌, inl, inr, refl, sym, ap, subst, Bool, true, false, List, length, Option, Some}
+use Rattle.std.proofs.Common.{◌≡◌, ◌∙◌, ℕ, ◌+◌, ◌<◌, ◌⊎◌, inl, inr, refl, sym, ap, subst, Bool, length, Some}
 use Rattle.std.specs.Prelude.{map}
 use Rattle.std.specs.List.{slice_get, slice_set}
 use Rattle.rv_image_types.specs.declared.images.ImageParts.{ImageParts}
@@ -25,14 +25,14 @@ use Rattle.cl_order_laws.specs.Alike.{AlikeRanks, hub_of}
 use Rattle.cl_order_laws.proofs.Likeness.{rank_itself}
 use Rattle.cl_order_laws.proofs.SureAlone.{IsLive, has_hart}
 use Rattle.cl_reduction_laws.specs.Below.{Turn}
-use Rattle.cl_reduction_laws.specs.Clusters.{IsGood, IsWithin, Search, State, cluster_machine}
+use Rattle.cl_reduction_laws.specs.Clusters.{IsWithin, Search, State, cluster_machine}
 use Rattle.cl_reduction_laws.proofs.Good.{good_after}
 use Rattle.cl_delay_laws.specs.Networks.{IsTurn, in_vain, same}
 use Rattle.cl_contest_laws.proofs.Good.{good_alike}
 use Rattle.cl_way_laws.specs.Clusters.{IsArrived, WayCluster, called_on_way}
 use Rattle.cl_way_laws.specs.Met.{is_met, met, met_by}
 use Rattle.cl_way_laws.proofs.MetCalls.{alike_of}
-use Rattle.cl_way_laws.proofs.MetNeeds.{IsMetIn, WaitsForMet, wait_asks, wait_asks_none, wait_on, wait_told}
+use Rattle.cl_way_laws.proofs.MetNeeds.{WaitsForMet, wait_asks, wait_asks_none, wait_on, wait_told}
 use Rattle.cl_way_laws.proofs.MetRanks.{number_is, number_told, ranks_told, there_met}
 use Rattle.cl_way_laws.proofs.Near.{AreNear, IsNear, near_alike, near_at, told_near}
 use Rattle.cl_way_laws.proofs.Posting.{lines_now, met_asked}

@@ -13,7 +13,7 @@ use Rattle.mp_request.specs.declared.entries.State.TheVariants.{Ordinary, Active
 use Rattle.mp_request.specs.declared.entries.Transfer.{Transfer}
 use Rattle.mp_request.specs.declared.entries.Transfer.TheVariants as transfer
 use Rattle.mp_request.specs.Entries.{active_with}
-use Rattle.mp_request.specs.Table.{Table, request_at, started, with_request}
+use Rattle.mp_request.specs.Table.{Table, request_at, with_request}
 use Rattle.part_phase.specs.declared.phases.Phase.{Phase}
 use Rattle.part_phase.specs.Phases.{receiving_at}
 use Rattle.cl_calls.specs.declared.calls.Call.{Call}

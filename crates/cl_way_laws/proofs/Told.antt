@@ -1,5 +1,5 @@
 -- What a search tells of runs with messages on their way.
-use Rattle.std.proofs.Common.{◌≡◌, ◌∙◌, ℕ, ◌⊎◌, refl, sym, ap, subst, arith, inl, inr, Bool, true, List, [], ◌∷◌, length, Some}
+use Rattle.std.proofs.Common.{◌≡◌, ◌∙◌, ℕ, ◌⊎◌, sym, ap, subst, arith, inl, inr, Bool, true, List, [], ◌∷◌, length, Some}
 use Rattle.std.specs.List.{slice_get}
 use Rattle.rv_image_types.specs.declared.images.ImageParts.{ImageParts}
 use Rattle.mp_types.specs.declared.replies.Reply.{Reply}
