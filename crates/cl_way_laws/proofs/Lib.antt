@@ -3,13 +3,17 @@ pub mod SyncSends
 pub mod LaterSend
 pub mod Posting
 pub mod Complete
+pub mod Named
+pub mod Distinct
 pub mod MetTables
 pub mod MetAsks
 pub mod MetTold
 pub mod MetRows
 pub mod MetStays
 pub mod MetKept
+pub mod MetGot
 pub mod MetNeeds
+pub mod Before
 pub mod Near
 pub mod Elsewhere
 pub mod Asking
@@ -20,6 +24,8 @@ pub mod AtHub
 pub mod MetRanks
 pub mod MetCalls
 pub mod MetWaits
+pub mod MetGathers
+pub mod MetEnds
 pub mod MetHomes
 pub mod Network
 pub mod Sure

@@ -1,7 +1,9 @@
 -- Ranks whose synchronous sends are complete are at home where they were, and at the start no send is complete so.
 use Rattle.std.proofs.Common.{◌≡◌, ◌∙◌, ℕ, zero, suc, refl, sym, ap, subst, Bool, true, false, List, [], ◌∷◌, Option, Some, None}
 use Rattle.std.specs.Prelude.{cond, map}
+use Rattle.std.specs.List.{slice_get}
 use Rattle.std.specs.Option.{option_map}
+use Rattle.std.proofs.lemmas.Option.{same_Some}
 use Rattle.rv_image_types.specs.declared.images.ImageParts.{ImageParts}
 use Rattle.mp_request.specs.declared.entries.OpenRequest.{OpenRequest}
 use Rattle.mp_request.specs.declared.entries.Progress.{Progress}
@@ -96,3 +98,10 @@ all_none (rank ∷ ranks) =
     let one = met_none rank in
     let rest = all_none ranks in
     (λ k. one k ∷ rest k)
+
+-- what stands in a list that was mapped
+pub from_map : {A B : Type 0} (f : A → B) (xs : List A) (i : ℕ) (y : B) → slice_get (map f xs) i ≡ Some y
+    → (x : A) × (f x ≡ y)
+from_map f [] i y at = absurd (cc)
+from_map f (x ∷ xs) zero y at = (x, same_Some (f x) y at)
+from_map f (x ∷ xs) (suc i) y at = from_map f xs i y at

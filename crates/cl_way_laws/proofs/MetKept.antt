@@ -10,6 +10,7 @@ use Rattle.mp_clash_laws.proofs.Swaps.{at_first, below, swap}
 use Rattle.mp_match.specs.declared.posts.Line.{Line}
 use Rattle.mp_match.specs.declared.posts.Post.{Post}
 use Rattle.mp_match.specs.Pairs.{add}
+use Rattle.mp_match.proofs.Places.{get_within}
 use Rattle.mp_request.specs.declared.entries.OpenRequest.{OpenRequest}
 use Rattle.mp_request.specs.declared.entries.Progress.{Progress}
 use Rattle.mp_request.specs.declared.entries.Progress.TheVariants.{Finished, Sent, OnPost, InPhase}
@@ -26,11 +27,11 @@ use Rattle.cl_way_laws.proofs.MetStays.{met_stays}
 
 -- ---- the first so many posts
 
-abbrev Fixes : ℕ → Renaming → Type 0
+abbrev pub Fixes : ℕ → Renaming → Type 0
 Fixes many names = (place : ℕ) → place < many → names.to place ≡ place
 
 -- a number that each such renaming keeps is one of theirs
-numbered : (many n : ℕ) → ((names : Renaming) → Fixes many names → number_by names n ≡ n) → n ≤ many
+pub numbered : (many n : ℕ) → ((names : Renaming) → Fixes many names → number_by names n ≡ n) → n ≤ many
 numbered many zero kept = omega arith
 numbered many (suc place) kept = elim (cases_Bool (nat_lt place many)) [
   | inl less ↦ (let inside = ltb-true place many less in omega (arith, inside))
@@ -138,3 +139,12 @@ module _ (lines : List Line) (p : Post) where
       ap (λ table. record rank { requests = table })
       (table_kept (is_met lines number) (is_met (add lines p) number) (length lines) (more_met number) (same_met number)
       rank.requests (λ names fixes. ap (λ (x : Rank). x.requests) (right names fixes)))
+
+-- who is met was made
+pub met_made : (lines : List Line) (rank n : ℕ) → is_met lines rank n ≡ true → n ≤ length lines
+met_made lines rank zero is = absurd (cc)
+met_made lines rank (suc place) is = go (slice_get lines place) refl
+  where
+    go : (o : Option Line) → slice_get lines place ≡ o → suc place ≤ length lines
+    go None e = (let none = ap (is_met_line lines rank place) e in absurd (cc))
+    go (Some line) e = get_within lines place line e

@@ -17,6 +17,7 @@ use Rattle.mp_request.specs.Table.{Table, request_at}
 use Rattle.part_phase.specs.declared.phases.Phase.{Phase}
 use Rattle.cl_calls.specs.declared.calls.Call.TheVariants as call
 use Rattle.cl_calls.specs.declared.calls.Completing.{Completing}
+use Rattle.cl_calls.specs.declared.calls.Several.{Several}
 use Rattle.cl_calls.specs.Calls.{any}
 use Rattle.cl_calls.specs.Handles.{handles_in}
 use Rattle.cl_calls.specs.Needs.{array_at}
@@ -30,6 +31,7 @@ use Rattle.cl_state.specs.Asked.{Part, asked, asked_completing, asked_in, doing,
 use Rattle.cl_state.specs.Partitions.{awaited, awaited_at}
 use Rattle.cl_state.specs.Pending.{asked_pending, pending_at, pending_in, pending_of}
 use Rattle.cl_state.specs.Rank.{Rank}
+use Rattle.cl_state.specs.Several.{asked_all, pendings, posts_pending}
 use Rattle.cl_state.specs.Table.{completes, completing, row_completing, row_in}
 use Rattle.cl_state.specs.Told.{received, told, told_row, with_part}
 use Rattle.cl_state_laws.specs.Vain.{waits_on}
@@ -38,6 +40,7 @@ use Rattle.cl_post_laws.proofs.Renamed.{by_row}
 use Rattle.cl_reduction_laws.specs.Complete.{is_complete_send, is_finished, is_synchronous, polls_complete_in}
 use Rattle.cl_way_laws.specs.Met.{met_by, met_open, met_state, met_table}
 use Rattle.cl_way_laws.proofs.MetAsks.{AllNeedSame, DoesSame, NeedsSame, awaited_met, doing_met, met_part}
+use Rattle.cl_way_laws.proofs.MetGot.{IsLess, same_none}
 use Rattle.cl_way_laws.proofs.MetRows.{row_at_met, with_met}
 use Rattle.cl_way_laws.proofs.MetTables.{request_met}
 use Rattle.cl_way_laws.proofs.MetTold.{received_by}
@@ -171,34 +174,54 @@ module _ (d : ℕ → Bool) where
     pub n : ℕ
     pub names : IsMetIn table c.handle n
 
-  -- a WAITALL names none that is complete
-  abbrev pub NamesNone : Memory → Table → Doing → Type 0
-  NamesNone memory table (Go (call.Waitall s)) =
-      is_one_complete table (handles_in memory (array_at s.array s.count)) ≡ false
-  NamesNone memory table _ = Unit {0}
+  -- a WAITALL that asks for these posts
+  pub record Gathers (memory : Memory) (table : Table) (does : Doing) : Type 0 where
+    pub s : Several
+    pub is : does ≡ Go (call.Waitall s)
+    pub post : ℕ
+    pub posts : List ℕ
+    pub names : posts_pending (pendings table (handles_in memory (array_at s.array s.count))) ≡ post ∷ posts
 
+  -- its requests need the same, but of sends that are complete
+  pub less : (table : Table) (handles : List ℕ) → IsLess d (pendings table handles) (pendings (met_table d table) handles)
+  less table [] = tt
+  less table (h ∷ handles) = (
+    elim (needs_or_met table h) [
+      | inl same ↦ inl same
+      | inr m ↦ inr (m.0, m.1.met, m.1.waits, m.1.then)
+    ],
+    less table handles,
+  )
+
+  -- it asks the same, or waits for what is complete, or gathers
   pub does_or_waits : (memory : Memory) (table : Table) (does : Doing)
-      → polls_complete_in memory (met_table d table) does ≡ false → NamesNone memory (met_table d table) does
-      → DoesSame d memory table does ⊎ WaitsForMet table does
-  does_or_waits memory table (Go (call.Test c)) none names = elim (needs_or_met table c.handle) [
+      → polls_complete_in memory (met_table d table) does ≡ false
+      → DoesSame d memory table does ⊎ (WaitsForMet table does ⊎ Gathers memory table does)
+  does_or_waits memory table (Go (call.Test c)) none = elim (needs_or_met table c.handle) [
     | inl same ↦ inl same
     | inr m ↦ (let is = m.1.complete in absurd (cc))
   ]
-  does_or_waits memory table (Go (call.Wait c)) none names = elim (needs_or_met table c.handle) [
+  does_or_waits memory table (Go (call.Wait c)) none = elim (needs_or_met table c.handle) [
     | inl same ↦ inl same
-    | inr m ↦ inr (record { c = c; is = refl; n = m.0; names = m.1 })
+    | inr m ↦ inr (inl (record { c = c; is = refl; n = m.0; names = m.1 }))
   ]
-  does_or_waits memory table (Go (call.Testall s)) none names =
+  does_or_waits memory table (Go (call.Testall s)) none =
       elim (all_need_or_met table (handles_in memory (array_at s.array s.count))) [
         | inl same ↦ inl same
         | inr is ↦ absurd (cc)
       ]
-  does_or_waits memory table (Go (call.Waitall s)) none names =
-      elim (all_need_or_met table (handles_in memory (array_at s.array s.count))) [
-        | inl same ↦ inl same
-        | inr is ↦ absurd (cc)
-      ]
-  does_or_waits memory table _ none names = inl tt
+  does_or_waits memory table (Go (call.Waitall s)) none =
+      go (posts_pending (pendings table (handles_in memory (array_at s.array s.count)))) refl
+    where
+      go : (ns : List ℕ) → posts_pending (pendings table (handles_in memory (array_at s.array s.count))) ≡ ns
+          → DoesSame d memory table (Go (call.Waitall s))
+          ⊎ (WaitsForMet table (Go (call.Waitall s)) ⊎ Gathers memory table (Go (call.Waitall s)))
+      go [] e =
+          inl (same_none d (pendings table (handles_in memory (array_at s.array s.count)))
+          (pendings (met_table d table) (handles_in memory (array_at s.array s.count)))
+          (less table (handles_in memory (array_at s.array s.count))) e)
+      go (n ∷ ns) e = inr (inr (record { s = s; is = refl; post = n; posts = ns; names = e }))
+  does_or_waits memory table _ none = inl tt
 
   -- ---- a WAIT
 
@@ -261,3 +284,12 @@ module _ (d : ℕ → Bool) where
         ∙ with_met d rank hart (received target any any [] part) stamp
         ∙ ap (met_by d) (sym (by_row rank hart (answer.Reply reply.Done) stamp
         ∙ ap (λ row. with_part rank hart (told_row rank.site row (answer.Reply reply.Done) part) stamp) row_is))
+
+  -- ---- a WAITALL
+
+  pub gathers_asks : (rank : Rank) (hart : ℕ)
+      → (g : Gathers rank.memory rank.requests (doing rank.site (part_of rank hart)))
+      → asked rank hart ≡ Ask.Hub (request.All (g.post ∷ g.posts))
+  unfolding asked
+  gathers_asks rank hart g =
+      ap (asked_in rank.site rank.memory rank.requests rank.phases) g.is ∙ ap asked_all g.names

@@ -1,6 +1,6 @@
 -- Ranks on the way, and once all has arrived, before and behind a turn.
-use Rattle.std.proofs.Common.{◌≡◌, ◌∙◌, ℕ, suc, ◌<◌, ◌⊎◌, refl, sym, ap, subst, Bool, true, false, List, [], ◌∷◌, length, Some}
-use Rattle.std.specs.Prelude.{map}
+use Rattle.std.proofs.Common.{◌≡◌, ◌∙◌, ℕ, suc, ◌<◌, ◌⊎◌, refl, sym, ap, subst, arith, Bool, true, false, List, [], ◌∷◌, length, Some}
+use Rattle.std.specs.Prelude.{map, not}
 use Rattle.std.specs.List.{slice_get, slice_set}
 use Rattle.rv_image_types.specs.declared.images.ImageParts.{ImageParts}
 use Rattle.rv_memory.specs.Memory.{Memory}
@@ -10,9 +10,12 @@ use Rattle.mp_types.specs.declared.requests.Request.{Request}
 use Rattle.mp_match.specs.declared.posts.Line.{Line}
 use Rattle.mp_match.specs.declared.posts.Post.TheVariants.{Receive, Send}
 use Rattle.mp_request.specs.Table.{Table, request_at}
+use Rattle.mp_probe.specs.Claims.{next_number}
 use Rattle.mp_hub.specs.Hub.{selecting, sending}
 use Rattle.mp_way_laws.specs.Way.{WayView}
+use Rattle.mp_way_laws.specs.Answers.{reply_on_way}
 use Rattle.cl_calls.specs.declared.calls.Call.TheVariants as call
+use Rattle.cl_calls.specs.declared.sites.Site.{Site}
 use Rattle.cl_calls.specs.Handles.{handles_in}
 use Rattle.cl_calls.specs.Needs.{array_at}
 use Rattle.cl_state.specs.declared.asking.Answer.{Answer}
@@ -33,14 +36,16 @@ use Rattle.cl_reduction_laws.specs.Complete.{polls_complete, polls_complete_in}
 use Rattle.cl_reduction_laws.proofs.Awake.{map_set, mapped}
 use Rattle.cl_reduction_laws.proofs.Naming.{below_if_right}
 use Rattle.cl_way_laws.specs.Met.{is_met, met, met_by, met_table}
-use Rattle.cl_way_laws.specs.Waiting.{OnlyWaits, gathers_complete, gathers_complete_in}
+use Rattle.cl_way_laws.specs.Waiting.{OnlyWaits}
+use Rattle.cl_way_laws.proofs.Before.{table_before}
 use Rattle.cl_way_laws.proofs.LaterSend.{posted_is}
 use Rattle.cl_way_laws.proofs.MetAsks.{DoesSame, doing_met}
-use Rattle.cl_way_laws.proofs.MetKept.{met_kept}
-use Rattle.cl_way_laws.proofs.MetNeeds.{NamesNone, WaitsForMet, does_or_waits}
+use Rattle.cl_way_laws.proofs.MetKept.{met_kept, met_made}
+use Rattle.cl_way_laws.proofs.MetNeeds.{Gathers, WaitsForMet, does_or_waits}
 use Rattle.cl_way_laws.proofs.MetRows.{tells_met}
 use Rattle.cl_way_laws.proofs.MetTold.{Unmet}
-use Rattle.cl_way_laws.proofs.Posting.{PostsAs, a_receive, a_send, lines_behind, lines_now, nothing}
+use Rattle.cl_way_laws.proofs.Named.{NamesApart, NamesBefore, Tells, apart_more, told_more}
+use Rattle.cl_way_laws.proofs.Posting.{PostsAs, a_receive, a_send, lines_behind, lines_now, many_now, nothing}
 use Rattle.cl_way_laws.proofs.States.{WayState}
 use Rattle.cl_way_laws.proofs.SyncSends.{IsSsend, LeavesRequest, SendsNow, opens_met}
 
@@ -79,34 +84,31 @@ same_again d e memory table is (Go (call.Waitall s)) same =
     ap (λ t. pendings t (handles_in memory (array_at s.array s.count))) is ∙ same
 same_again d e memory table is _ same = tt
 
-none_named : (d : ℕ → Bool) (memory : Memory) (table : Table) (does : Doing)
-    → gathers_complete_in memory table does ≡ false → NamesNone d memory table does
-none_named d memory table (Go (call.Waitall s)) none = none
-none_named d memory table _ none = tt
-
--- it does the same once all has arrived, or waits for a send that is complete then
+-- it does the same once all has arrived, or waits for sends that are complete then
 same_or_waits : (d : ℕ → Bool) (rank : Rank) (hart : ℕ) → polls_complete (met_by d rank) hart ≡ false
-    → gathers_complete (met_by d rank) hart ≡ false
     → DoesSame d rank.memory rank.requests (doing rank.site (part_of rank hart))
-    ⊎ WaitsForMet d rank.requests (doing rank.site (part_of rank hart))
-same_or_waits d rank hart polls gathers =
-    let same = doing_met d rank.site (part_of rank hart) in
+    ⊎ (WaitsForMet d rank.requests (doing rank.site (part_of rank hart))
+    ⊎ Gathers d rank.memory rank.requests (doing rank.site (part_of rank hart)))
+same_or_waits d rank hart polls =
     does_or_waits d rank.memory rank.requests (doing rank.site (part_of rank hart))
-    (ap (polls_complete_in rank.memory (met_table d rank.requests)) (sym same) ∙ polls)
-    (none_named d rank.memory (met_table d rank.requests) (doing rank.site (part_of rank hart))
-    (ap (gathers_complete_in rank.memory (met_table d rank.requests)) (sym same) ∙ gathers))
+    (ap (polls_complete_in rank.memory (met_table d rank.requests)) (sym (doing_met d rank.site (part_of rank hart)))
+    ∙ polls)
 
--- in a cluster in which each rank asks within the patterns: it is here alone that no rank polls or gathers what was complete as it
--- was made
+-- in a cluster in which the rank asks within the patterns: it is here alone that no rank polls what was complete as it was made
 pub same_within : (search : Search) → OnlyWaits search → (c : Cluster) (r : ℕ) → IsWithin search c r → (lines : List Line)
     (x : Rank)
     → slice_get c.ranks r ≡ Some (met lines x)
     → DoesSame (is_met lines x.site.number) x.memory x.requests (doing x.site (part_of x (search.harts r)))
-    ⊎ WaitsForMet (is_met lines x.site.number) x.requests (doing x.site (part_of x (search.harts r)))
+    ⊎ (WaitsForMet (is_met lines x.site.number) x.requests (doing x.site (part_of x (search.harts r)))
+    ⊎ Gathers (is_met lines x.site.number) x.memory x.requests (doing x.site (part_of x (search.harts r))))
 same_within search waits_only c r within lines x here =
     same_or_waits (is_met lines x.site.number) x (search.harts r)
     (waits_only.polls_of_complete c r within (met lines x) here)
-    (waits_only.gathers_of_complete c r within (met lines x) here)
+
+tells_it : (site : Site) (n : ℕ) (x : Reply) → ((m : ℕ) (b : Bool) → x ≡ reply.Posted m b → m ≡ n)
+    → Tells n site (answer.Reply x)
+tells_it site n (reply.Posted m b) is = is m b refl
+tells_it site n _ is = tt
 
 pub unmet_reply : (d : ℕ → Bool) (x : Reply) → ((n : ℕ) (b : Bool) → x ≡ reply.Posted n b → d n ≡ false)
     → Unmet d (answer.Reply x)
@@ -144,6 +146,36 @@ module _ (search : Search) (image : ImageParts) (a : WayState search image) wher
 
   pub number_is : (r : ℕ) (x : Rank) → slice_get a.now.ranks r ≡ Some x → x.site.number ≡ r
   number_is r x at = ap (λ s. s.number) (a.home r (met lines x) (there_met r x at)).site
+
+  -- a rank names only posts that were made
+  names_made : (r : ℕ) (x : Rank) → slice_get a.now.ranks r ≡ Some x
+      → NamesBefore (next_number w.hub.board) x.requests
+  names_made r x at h k is =
+      let below = names_below r x at in
+      let most = table_before (is_met lines x.site.number) (length lines) (met_made lines x.site.number) x.requests
+      (λ names fixes. ap (λ (z : Rank). z.requests) (below names fixes)) h k is in
+      let many = many_now w in
+      omega (arith, most, many)
+
+  -- and each once, also once it is told of the post that its call made
+  pub apart_told : (r : ℕ) (x : Rank) → slice_get a.now.ranks r ≡ Some x → NamesApart x.requests → (hart stamp : ℕ)
+      (v : Answer)
+      → Tells (next_number w.hub.board) x.site v → NamesApart (told x hart v stamp).requests
+  apart_told r x at apart hart stamp v tells =
+      apart_more (next_number w.hub.board) x.requests (told x hart v stamp).requests apart (names_made r x at)
+      (told_more (next_number w.hub.board) x hart stamp v tells)
+
+  pub tells_next : (r : ℕ) (q : Request) (site : Site) → PostsAs w r q
+      → Tells (next_number w.hub.board) site (answer.Reply (reply_on_way w r q))
+  tells_next r q site posts = tells_it site (next_number w.hub.board) (reply_on_way w r q) (it posts)
+    where
+      it : PostsAs w r q → (n : ℕ) (b : Bool) → reply_on_way w r q ≡ reply.Posted n b → n ≡ next_number w.hub.board
+      it (nothing same none) n b is = absurd (none n b is)
+      it (a_send sync comm dest tag bytes q_is same posted) n b is = posted_number (sym is ∙ posted)
+        where
+          posted_number : reply.Posted n b ≡ reply.Posted (next_number w.hub.board) (not sync) → n ≡ next_number w.hub.board
+          posted_number e = cc
+      it (a_receive now comm source tag q_is same number) n b is = number n b is
 
   -- behind a call of one rank the others are as before
   pub ranks_behind : (r : ℕ) (q : Request) → PostsAs w r q → (z : Rank)

@@ -157,6 +157,29 @@ module _ (d : ℕ → Bool) where
       go true = all_by site value statuses handles gots part same
       go false = ended_by code.BadRequest 0 part
 
+  -- where each is given the same
+  pub completes_by : (site : Site) (value statuses : ℕ) (handles : List ℕ) (gots others : List (Option Message)) (part : Part)
+      → given site (pendings (met_table d part.requests) handles) others ≡ given site (pendings part.requests handles) gots
+      → completed_all site value statuses handles others (met_part d part)
+      ≡ met_part d (completed_all site value statuses handles gots part)
+  unfolding completed_all
+  completes_by site value statuses handles gots others part same =
+      let gs = given site (pendings part.requests handles) gots in
+      ap (λ gs. ended (code_of gs) value
+      (part_with part.hart (with_statuses (with_all_bytes part.memory gs) statuses gs)
+      (completed_each (met_table d part.requests) handles) part.phases part.out)) same
+      ∙ ends_with (code_of gs) value part.hart (with_statuses (with_all_bytes part.memory gs) statuses gs) _ _ part.phases
+      part.out (each_by part.requests handles)
+
+  pub gathers_by : (b : Bool) (site : Site) (value statuses : ℕ) (handles : List ℕ) (gots others : List (Option Message))
+      (part : Part)
+      → given site (pendings (met_table d part.requests) handles) others ≡ given site (pendings part.requests handles) gots
+      → gathered_if b site value statuses handles others (met_part d part)
+      ≡ met_part d (gathered_if b site value statuses handles gots part)
+  gathers_by true site value statuses handles gots others part same =
+      completes_by site value statuses handles gots others part same
+  gathers_by false site value statuses handles gots others part same = ended_by code.BadRequest 0 part
+
   -- ---- probes
 
   found_at_by : (o : Option ℕ) (value status : ℕ) (envelope : Envelope) (part : Part)

@@ -1,11 +1,12 @@
 -- The cluster on the way as a network over the machine on which messages arrive at once.
-use Rattle.std.proofs.Common.{◌≡◌, ◌∙◌, ℕ, ◌<◌, ◌⊎◌, inl, inr, refl, sym, ap, subst, Bool, length, Some}
+use Rattle.std.proofs.Common.{◌≡◌, ◌∙◌, ℕ, ◌<◌, ◌⊎◌, inl, inr, refl, sym, ap, subst, Bool, length, Some, ◌∷◌}
 use Rattle.std.specs.Prelude.{map}
 use Rattle.std.specs.List.{slice_get, slice_set}
 use Rattle.rv_image_types.specs.declared.images.ImageParts.{ImageParts}
 use Rattle.mp_types.specs.declared.requests.Request.{Request}
 use Rattle.mp_types.specs.declared.requests.Request.TheVariants as request
 use Rattle.mp_match.specs.declared.posts.Sent.{Sent}
+use Rattle.mp_probe.specs.Claims.{next_number}
 use Rattle.mp_hub.specs.Hub.{HubView}
 use Rattle.mp_way_laws.specs.Way.{IsNext, all_arrived, arrival}
 use Rattle.mp_way_laws.specs.Runs.{NamesSource}
@@ -36,13 +37,15 @@ use Rattle.cl_way_laws.specs.Waiting.{OnlyWaits}
 use Rattle.cl_way_laws.proofs.Elsewhere.{IsNoReply, MovesToo, asks_elsewhere, moved, moves_too}
 use Rattle.cl_way_laws.proofs.MetAsks.{DoesSame, asks_met}
 use Rattle.cl_way_laws.proofs.MetCalls.{call_behind, call_goes, call_named}
+use Rattle.cl_way_laws.proofs.MetGathers.{gathers_behind, gathers_goes, q_is as gathers_q}
 use Rattle.cl_way_laws.proofs.MetHomes.{home_back, home_met}
-use Rattle.cl_way_laws.proofs.MetNeeds.{WaitsForMet, wait_asks}
-use Rattle.cl_way_laws.proofs.MetRanks.{ranks_told, same_within, there_met, told_alone}
+use Rattle.cl_way_laws.proofs.MetNeeds.{Gathers, WaitsForMet, gathers_asks, wait_asks}
+use Rattle.cl_way_laws.proofs.MetRanks.{apart_told, ranks_told, same_within, tells_next, there_met, told_alone}
 use Rattle.cl_way_laws.proofs.MetTold.{Unmet}
 use Rattle.cl_way_laws.proofs.MetWaits.{q_is, wait_behind, wait_goes}
 use Rattle.cl_way_laws.proofs.Near.{IsNear, arrived_near, near_alike}
-use Rattle.cl_way_laws.proofs.Posting.{lines_now}
+use Rattle.cl_way_laws.proofs.Named.{NamesApart, Tells}
+use Rattle.cl_way_laws.proofs.Posting.{lines_now, posts_as}
 use Rattle.cl_way_laws.proofs.SameHubs.{same_hub_is, same_hub_itself}
 use Rattle.cl_way_laws.proofs.States.{Behind, WayState, came_by_arrival, came_by_call, each_in}
 
@@ -103,6 +106,7 @@ module _ (search : Search) (image : ImageParts) (waits_only : OnlyWaits search) 
       };
       came = came_by_arrival image.links a.now.way place sent next a.came;
       home = a.home;
+      apart = a.apart;
     },
     sym is,
   )
@@ -117,7 +121,8 @@ module _ (search : Search) (image : ImageParts) (waits_only : OnlyWaits search) 
     abbrev does : Doing
     does = doing x.site (part_of x (search.harts r))
 
-    choice : DoesSame d x.memory x.requests does ⊎ WaitsForMet d x.requests does
+    choice : DoesSame d x.memory x.requests does
+        ⊎ (WaitsForMet d x.requests does ⊎ Gathers d x.memory x.requests does)
     choice =
         same_within search waits_only a.state.cluster r within (lines_now a.now.way) x
         (there_met search image a r x there)
@@ -132,20 +137,27 @@ module _ (search : Search) (image : ImageParts) (waits_only : OnlyWaits search) 
       hub_goes b two = elim choice [
         | inl same_does ↦
             call_goes search image waits_only a r x q stamp there asks within same_does b.state two
-        | inr waits_so ↦ wait_goes search image a r x q stamp there asks within waits_so b.state two
+        | inr (inl waits_so) ↦ wait_goes search image a r x q stamp there asks within waits_so b.state two
+        | inr (inr gathers_so) ↦
+            gathers_goes search image a r x q stamp there asks within gathers_so (a.apart r x there) b.state two
       ]
 
       hub_named : NamesSource q
       hub_named = elim choice [
         | inl same_does ↦ call_named search image waits_only a r x q stamp there asks within same_does
-        | inr waits_so ↦
+        | inr (inl waits_so) ↦
             subst NamesSource (sym (q_is search image a r x q stamp there asks within waits_so)) tt
+        | inr (inr gathers_so) ↦
+            subst NamesSource
+            (sym (gathers_q search image a r x q stamp there asks within gathers_so (a.apart r x there))) tt
       ]
 
       hub_left : Behind search called_new
       hub_left = elim choice [
         | inl same_does ↦ call_behind search image waits_only a r x q stamp there asks within same_does
-        | inr waits_so ↦ wait_behind search image a r x q stamp there asks within waits_so
+        | inr (inl waits_so) ↦ wait_behind search image a r x q stamp there asks within waits_so
+        | inr (inr gathers_so) ↦
+            gathers_behind search image a r x q stamp there asks within gathers_so (a.apart r x there)
       ]
 
       hub_home : (b : Behind search called_new) → AreHome image b.cluster
@@ -171,6 +183,12 @@ module _ (search : Search) (image : ImageParts) (waits_only : OnlyWaits search) 
             arrived = b.arrived;
             came = came_by_call image.links a.now.way r q hub_named a.came;
             home = hub_home b;
+            apart = each_in (λ s z. NamesApart z.requests) a.now.ranks r
+                (told x (search.harts r) (answer.Reply (reply_on_way a.now.way r q)) stamp)
+                (apart_told search image a r x there (a.apart r x there) (search.harts r) stamp
+                (answer.Reply (reply_on_way a.now.way r q))
+                (tells_next search image a r q x.site (posts_as a.now.way r q hub_named)))
+                a.apart;
           }
 
     -- ---- a turn that doesn't ask the hub
@@ -190,9 +208,13 @@ module _ (search : Search) (image : ImageParts) (waits_only : OnlyWaits search) 
       same_does : DoesSame d x.memory x.requests does
       same_does = elim choice [
         | inl it ↦ it
-        | inr waits_so ↦
+        | inr (inl waits_so) ↦
             absurd (asks_elsewhere a.now journal e x next e.kind is case (request.Finished waits_so.n)
             (ap (asked x) its ∙ wait_asks d x (search.harts r) waits_so))
+        | inr (inr gathers_so) ↦
+            absurd (asks_elsewhere a.now journal e x next e.kind is case
+            (request.All (gathers_so.post ∷ gathers_so.posts))
+            (ap (asked x) its ∙ gathers_asks d x (search.harts r) gathers_so))
       ]
 
       asks_same : asked y e.hart ≡ asked x e.hart
@@ -221,6 +243,10 @@ module _ (search : Search) (image : ImageParts) (waits_only : OnlyWaits search) 
 
       abbrev else_state : State search
       else_state = record { cluster = after; good = good_after search r c after y here a.state.good within else_turn }
+
+      tells_none : (v : Answer) → IsNoReply v → Tells (next_number a.now.way.hub.board) x.site v
+      tells_none (answer.Reply v) none = absurd none
+      tells_none _ none = tt
 
       unmet_answer : (v : Answer) → IsNoReply v → Unmet d v
       unmet_answer (answer.Reply v) none = absurd none
@@ -257,7 +283,18 @@ module _ (search : Search) (image : ImageParts) (waits_only : OnlyWaits search) 
           (home_told image e.rank e.hart l.0 t.0 e.stamp) a.home
 
       else_behind : WayState search image
-      else_behind = record { now = new; state = else_state; arrived = else_arrived; came = a.came; home = else_home }
+      else_behind = record {
+        now = new;
+        state = else_state;
+        arrived = else_arrived;
+        came = a.came;
+        home = else_home;
+        apart = λ s z at.
+            each_in (λ s z. NamesApart z.requests) a.now.ranks e.rank (told x e.hart moves.told_this e.stamp)
+            (apart_told search image a r x there (a.apart r x there) e.hart e.stamp moves.told_this
+            (tells_none moves.told_this moves.no_reply))
+            a.apart s z (ap (λ xs. slice_get xs s) (sym moves.ranks_are) ∙ at);
+      }
 
   -- ---- any turn
 

@@ -426,26 +426,30 @@ finished_is h rank n b c one two =
     ∙ ap (λ c. (let x : Reply × HubView =
     cond b (cond c reply.Done reply.NotYet, h) (reply.Code code.BadRequest, h) in x)) two
 
--- once all has arrived it is complete
-pub met_is_done : (h : HubView) (rank n : ℕ) → is_met h.board.lines rank n ≡ true
-    → (finished_outcome h rank n).0 ≡ reply.Done
-met_is_done h rank zero is = absurd (cc)
-met_is_done h rank (suc place) is =
+pub met_sends : (b : Board) (rank n : ℕ) → is_met b.lines rank n ≡ true → is_send_of rank (line_of b n) ≡ true
+met_sends b rank zero is = absurd (cc)
+met_sends b rank (suc place) is =
+    let k = met_there b.lines rank place is in own_send b.lines rank place k.line k.sent k.here k.sends k.own
+
+pub met_complete : (h : HubView) (rank n : ℕ) → is_met h.board.lines rank n ≡ true → is_complete h n ≡ true
+met_complete h rank zero is = absurd (cc)
+met_complete h rank (suc place) is =
     let k = met_there h.board.lines rank place is in
-    ap (λ (x : Reply × HubView). x.0)
-    (finished_is h rank (suc place) true true (own_send h.board.lines rank place k.line k.sent k.here k.sends k.own)
-    (complete k))
+    or_true (is_standard (slice_get h.board.lines place))
+    (is_receive_at h.board (partner_of h.board (suc place)))
+    (was_received h (claim_of h.board (suc place)))
+    (ap (is_receive_at h.board) (ap partner_of_line k.here ∙ k.partner) ∙ k.receive)
   where
     or_true : (a b c : Bool) → b ≡ true → ((a || b) || c) ≡ true
     or_true true b c e = refl
     or_true false b c e = ap (λ x. x || c) e
 
-    complete : IsMetThere h.board.lines rank place is → is_complete h (suc place) ≡ true
-    complete k =
-        or_true (is_standard (slice_get h.board.lines place))
-        (is_receive_at h.board (partner_of h.board (suc place)))
-        (was_received h (claim_of h.board (suc place)))
-        (ap (is_receive_at h.board) (ap partner_of_line k.here ∙ k.partner) ∙ k.receive)
+-- once all has arrived it is complete
+pub met_is_done : (h : HubView) (rank n : ℕ) → is_met h.board.lines rank n ≡ true
+    → (finished_outcome h rank n).0 ≡ reply.Done
+met_is_done h rank n is =
+    ap (λ (x : Reply × HubView). x.0)
+    (finished_is h rank n true true (met_sends h.board rank n is) (met_complete h rank n is))
 
 -- and until then it is or it isn't, and nothing changes
 pub met_asked : (w : WayView) (rank n : ℕ) → is_met (lines_now w) rank n ≡ true

@@ -3,7 +3,7 @@ use Rattle.std.proofs.Common.{◌≡◌, ◌∙◌, ℕ, ◌<◌, refl, sym, ap,
 use Rattle.std.specs.List.{slice_get}
 use Rattle.rv_image_types.specs.declared.images.ImageParts.{ImageParts}
 use Rattle.mp_way_laws.specs.Way.{all_arrived}
-use Rattle.cl_state.specs.Rank.{Rank}
+use Rattle.cl_state.specs.Rank.{Rank, below, loaded}
 use Rattle.cl_machine.specs.Cluster.{Cluster, loaded_cluster}
 use Rattle.cl_order_laws.specs.Closed.{Node, Plans}
 use Rattle.cl_deadlock_laws.proofs.Reached.{comes_reached}
@@ -23,9 +23,10 @@ use Rattle.cl_way_laws.specs.Clusters.{HappensOnWay, IsArrived, IsWayRun, WayClu
 use Rattle.cl_way_laws.specs.Laws.{IsSearched}
 use Rattle.cl_way_laws.specs.Met.{met}
 use Rattle.cl_way_laws.proofs.Found.{found_along, found_matched, within_matched}
-use Rattle.cl_way_laws.proofs.MetHomes.{all_none}
+use Rattle.cl_way_laws.proofs.MetHomes.{all_none, from_map}
 use Rattle.cl_way_laws.proofs.MetRanks.{there_met}
 use Rattle.cl_way_laws.proofs.Near.{arrived_near, good_too, near_alike}
+use Rattle.cl_way_laws.proofs.Named.{NamesApart, apart_first}
 use Rattle.cl_way_laws.proofs.Network.{arrived_behind, is_network, network, turned}
 use Rattle.cl_way_laws.proofs.Posting.{lines_now}
 use Rattle.cl_way_laws.proofs.SameHubs.{same_hub_itself}
@@ -76,6 +77,9 @@ module _ (search : Search) (plans : Plans) (nodes : List Node) (image : ImagePar
       came = record { events = []; on = refl; named = tt };
       home = home_of image (loaded_cluster image) (comes_reached image [] (loaded_cluster image) refl)
           (searched.well).single.one;
+      apart = λ r rank at.
+          let f = from_map (loaded image) (below image.ranks) r rank at in
+          subst (λ (z : Rank). NamesApart z.requests) f.1 apart_first;
     }
 
     pub finds : (P : State search → Type 0) → IsLasting m P → (rs : List ℕ) (end : State search)

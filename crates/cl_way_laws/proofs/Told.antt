@@ -6,6 +6,7 @@ use Rattle.mp_types.specs.declared.replies.Reply.{Reply}
 use Rattle.mp_types.specs.declared.replies.Reply.TheVariants as reply
 use Rattle.mp_types.specs.declared.requests.Request.TheVariants as request
 use Rattle.mp_match.specs.declared.posts.Line.{Line}
+use Rattle.mp_hub.specs.Hub.{outcome}
 use Rattle.mp_way_laws.specs.Way.{all_arrived}
 use Rattle.mp_way_laws.specs.Runs.{NamesSource}
 use Rattle.mp_way_laws.specs.Laws.{IsCameTo}
@@ -46,8 +47,10 @@ use Rattle.cl_way_laws.specs.Met.{is_met, met}
 use Rattle.cl_way_laws.proofs.AllCame.{vain_now}
 use Rattle.cl_way_laws.proofs.Asking.{names_source}
 use Rattle.cl_way_laws.proofs.MetAsks.{DoesSame, asks_met, doing_met}
-use Rattle.cl_way_laws.proofs.MetNeeds.{WaitsForMet, wait_asks}
+use Rattle.cl_way_laws.proofs.MetEnds.{gathers_then}
+use Rattle.cl_way_laws.proofs.MetNeeds.{Gathers, WaitsForMet, gathers_asks, wait_asks}
 use Rattle.cl_way_laws.proofs.MetRanks.{same_within}
+use Rattle.cl_way_laws.proofs.Named.{NamesApart}
 use Rattle.cl_way_laws.proofs.Posting.{met_is_done}
 use Rattle.cl_way_laws.proofs.Reached.{Reached, alike_there, are_closed, arrived_there, finds_there, first, home_there, is, matched, planned, reached, there}
 use Rattle.cl_way_laws.proofs.SameHubs.{same_call}
@@ -135,8 +138,35 @@ module _ (search : Search) (plans : Plans) (nodes : List Node) (image : ImagePar
 
     choice : (r : ℕ) (x : Rank) → slice_get c.ranks r ≡ Some (met lines x)
         → DoesSame (d x) x.memory x.requests (doing x.site (part_of x (search.harts r)))
-        ⊎ WaitsForMet (d x) x.requests (doing x.site (part_of x (search.harts r)))
+        ⊎ (WaitsForMet (d x) x.requests (doing x.site (part_of x (search.harts r)))
+        ⊎ Gathers (d x) x.memory x.requests (doing x.site (part_of x (search.harts r))))
     choice r x at = same_within search searched.waits c r (λ z at. found_node.within r z at) lines x at
+
+    -- a WAITALL that isn't told anything there
+    gathers_rest : (r : ℕ) (x : Rank) → slice_get w.ranks r ≡ Some x → slice_get c.ranks r ≡ Some (met lines x)
+        → Gathers (d x) x.memory x.requests (doing x.site (part_of x (search.harts r)))
+        → IsInVainOnWay w r (asked x (search.harts r)) → IsInVain c r (asked (met lines x) (search.harts r))
+    gathers_rest r x there at g none =
+        subst (IsInVain c r) (sym then.1)
+        (reply_is c.journal r (request.All then.0)
+        ∙ sym (same_call (hub_of c.journal) (all_arrived w.way) r (request.All then.0) arrived.hub).0
+        ∙ then.2)
+      where
+        apart : NamesApart x.requests
+        apart = k.here.apart r x (ap (λ (v : WayCluster). slice_get v.ranks r) k.is_here ∙ there)
+
+        number : x.site.number ≡ r
+        number =
+            ap (λ s. s.number) (home_there search plans nodes image searched w k c arrived r (met lines x) at).site
+
+        never : (outcome (all_arrived w.way) r (request.All (g.post ∷ g.posts))).0 ≡ reply.NotYet
+        never =
+            vain_now image.links w.way came ended.arrived r (request.All (g.post ∷ g.posts)) tt
+            (subst (IsInVainOnWay w r) (gathers_asks (d x) x (search.harts r) g) none)
+
+        then : (ns : List ℕ) × (asked (met lines x) (search.harts r) ≡ Ask.Hub (request.All ns))
+            × ((outcome (all_arrived w.way) r (request.All ns)).0 ≡ reply.NotYet)
+        then = gathers_then (all_arrived w.way) x (search.harts r) g apart r number never
 
     -- it waits for what isn't there, or for what has arrived, which it would be told
     rests_so : (r : ℕ) (x : Rank) → slice_get w.ranks r ≡ Some x → slice_get c.ranks r ≡ Some (met lines x)
@@ -151,7 +181,7 @@ module _ (search : Search) (plans : Plans) (nodes : List Node) (image : ImagePar
             },
             subst (IsInVain c r) (sym asks) (vain_there r (met lines x) at (asked x (search.harts r)) asks none),
           )
-      | inr waits_so ↦
+      | inr (inl waits_so) ↦
           let never = vain_now image.links w.way came ended.arrived r (request.Finished waits_so.n) tt
           (subst (IsInVainOnWay w r) (wait_asks (d x) x (search.harts r) waits_so) none) in
           let number : x.site.number ≡ r =
@@ -159,6 +189,9 @@ module _ (search : Search) (plans : Plans) (nodes : List Node) (image : ImagePar
           let done = met_is_done (all_arrived w.way) r waits_so.n
           (ap (λ k. is_met lines k waits_so.n) (sym number) ∙ (waits_so.names).met) in
           absurd (done_is_not _ never done)
+      | inr (inr gathers_so) ↦
+          let on = ap waits_on (doing_met (d x) x.site (part_of x (search.harts r)) ∙ gathers_so.is) in
+          (record { waits = patient.waits; on = on }, gathers_rest r x there at gathers_so none)
     ]
       where
         done_is_not : (x : Reply) → x ≡ reply.NotYet → x ≡ reply.Done → ⊥
