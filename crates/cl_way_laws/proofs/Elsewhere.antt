@@ -102,8 +102,13 @@ module _ (w : WayCluster) (one : Journal) (e : Step) (x : Rank) (new : Cluster) 
     moves_too Kind.Miss is asks t = record {
       told_this = answer.Missed;
       no_reply = tt;
-      too = (t.0, t.1, elim t.2 [ inl look ↦ inl (asks ∙ look) | inr freed ↦ inr (asks ∙ freed) ], t.3,
-        ap (with_boxes_of answer.Missed) t.4);
+      too = (
+        t.0,
+        t.1,
+        elim t.2 [ inl look ↦ inl (asks ∙ look) | inr freed ↦ inr (asks ∙ freed) ],
+        t.3,
+        ap (with_boxes_of answer.Missed) t.4,
+      );
       ranks_are = ap (λ (n : Cluster). n.ranks) t.4;
     }
     moves_too Kind.Freed is asks t = record {

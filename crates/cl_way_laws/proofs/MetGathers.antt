@@ -1,6 +1,6 @@
 -- A WAITALL on the way that names synchronous sends that are complete once all has arrived.
-use Rattle.std.proofs.Common.{◌≡◌, ◌∙◌, ℕ, ◌+◌, ◌<◌, ◌⊎◌, inl, inr, refl, sym, ap, subst, Bool, true, false, List, [], ◌∷◌, length, Option, Some}
-use Rattle.std.specs.Prelude.{◌==◌, ◌&&◌, map}
+use Rattle.std.proofs.Common.{◌≡◌, ◌∙◌, ℕ, ◌+◌, ◌<◌, refl, sym, ap, subst, Bool, true, List, [], ◌∷◌, length, Option, Some}
+use Rattle.std.specs.Prelude.{◌&&◌, map}
 use Rattle.std.specs.List.{list_all, slice_get, slice_set}
 use Rattle.std.proofs.lemmas.Bool.{eq-eqb}
 use Rattle.rv_image_types.specs.declared.images.ImageParts.{ImageParts}
@@ -11,20 +11,16 @@ use Rattle.mp_types.specs.declared.replies.Reply.TheVariants as reply
 use Rattle.mp_types.specs.declared.requests.Request.{Request}
 use Rattle.mp_types.specs.declared.requests.Request.TheVariants as request
 use Rattle.mp_alike_laws.specs.Renaming.{no_renaming}
-use Rattle.mp_match.specs.Board.{Board}
-use Rattle.mp_hub.specs.Hub.{HubView, all_got, all_outcome, are_distinct, outcome, with_board}
-use Rattle.mp_request.specs.Table.{Table}
+use Rattle.mp_hub.specs.Hub.{HubView, all_got, all_outcome, outcome, with_board}
 use Rattle.mp_way_laws.specs.Way.{WayView, all_arrived}
-use Rattle.mp_way_laws.specs.Answers.{IsSameHub, IsToldAs, behind, behind_at_once, in_vain as vain, reply_at_once, reply_on_way, same as told_same, synchronous, waits}
+use Rattle.mp_way_laws.specs.Answers.{IsSameHub, IsToldAs, behind, in_vain as vain, reply_on_way, same as told_same, synchronous, waits}
 use Rattle.mp_way_laws.proofs.Answers.{answer_law}
-use Rattle.cl_calls.specs.declared.calls.Call.TheVariants as call
 use Rattle.cl_calls.specs.declared.calls.Several.{Several}
 use Rattle.cl_calls.specs.Handles.{handles_in}
 use Rattle.cl_calls.specs.Needs.{array_at}
 use Rattle.cl_state.specs.declared.asking.Answer.{Answer}
 use Rattle.cl_state.specs.declared.asking.Answer.TheVariants as answer
 use Rattle.cl_state.specs.declared.asking.Ask.{Ask}
-use Rattle.cl_state.specs.declared.asking.Doing.TheVariants.{Go}
 use Rattle.cl_state.specs.declared.pending.Manner.TheVariants.{Blocking}
 use Rattle.cl_state.specs.declared.pending.Pending.{Pending}
 use Rattle.cl_state.specs.declared.pending.Pending.TheVariants as pending
@@ -46,7 +42,7 @@ use Rattle.cl_order_laws.proofs.Likeness.{rank_itself}
 use Rattle.cl_order_laws.proofs.SureAlone.{IsLive, has_hart}
 use Rattle.cl_first_laws.proofs.Exchanges.{Called, call_of, next, turn_of}
 use Rattle.cl_reduction_laws.specs.Below.{Turn}
-use Rattle.cl_reduction_laws.specs.Clusters.{IsGood, IsWithin, Search, State, cluster_machine}
+use Rattle.cl_reduction_laws.specs.Clusters.{IsWithin, Search, State, cluster_machine}
 use Rattle.cl_reduction_laws.proofs.Good.{good_after}
 use Rattle.cl_delay_laws.specs.Networks.{IsTurn, in_vain, same}
 use Rattle.cl_contest_laws.proofs.Good.{good_alike}
@@ -55,7 +51,7 @@ use Rattle.cl_way_laws.specs.Met.{is_met, met, met_by, met_table}
 use Rattle.cl_way_laws.proofs.Distinct.{apart_met, waitall_distinct}
 use Rattle.cl_way_laws.proofs.MetAsks.{doing_met, met_part}
 use Rattle.cl_way_laws.proofs.MetCalls.{alike_of}
-use Rattle.cl_way_laws.proofs.MetGot.{GetsAs, all_of, gets_all, gets_as, got_same, has_to_wait, is_refused, many_got, nothing_yet, refusal, sum}
+use Rattle.cl_way_laws.proofs.MetGot.{GetsAs, all_of, gets_all, gets_as, got_same, has_to_wait, is_refused, many_got, refusal, sum}
 use Rattle.cl_way_laws.proofs.MetNeeds.{Gathers, less}
 use Rattle.cl_way_laws.proofs.MetRanks.{number_is, number_told, ranks_told, there_met}
 use Rattle.cl_way_laws.proofs.MetRows.{row_at_met, with_met}
@@ -258,36 +254,52 @@ module _ (search : Search) (image : ImageParts) (a : WayState search image) (r :
     goes = λ b near. in_vain (alike_of search a.state b near);
   }
 
-  -- it is told this by the hub once all has arrived
-  by_call : (u v : Reply) → reply_on_way w r q ≡ u → (n : ℕ) (ns : List ℕ) → posts_pending qs ≡ n ∷ ns
-      → (all_outcome full r (posts_pending qs)).0 ≡ v
-      → IsSameHub (all_outcome full r (posts_pending qs)).1 (all_arrived (behind w r q))
-      → told_row x.site (gathers Blocking s (posts_pending qs)) (answer.Reply v) (met_part d part)
-      ≡ met_part d (told_row x.site (gathers Blocking s (posts_pending ps)) (answer.Reply u) part)
-      → Leads u
-  by_call u v is n ns posts told_v hub row =
-      let p = request.All (posts_pending qs) in
-      let asks_y : asked y hart ≡ Ask.Hub p =
-      asks_then ∙ ap asked_all posts ∙ ap (λ ns. Ask.Hub (request.All ns)) (sym posts) in
-      let then = next c r hart y p in
-      let turn = turn_of c r hart y p here asks_y in
-      let called = call_of r hart c then y p here asks_y turn in
-      let at = same_call h full r p a.arrived.hub in
-      let after : State search =
-      record { cluster = then; good = good_after search r c then y here a.state.good within turn } in
-      record {
-        is = is;
-        state = after;
-        ranks = subst (λ z. AreNear then.ranks (slice_set c.ranks r z)) (sym (tells (answer.Reply u) (answer.Reply v) row))
-            (subst (λ xs. AreNear xs (slice_set c.ranks r (told y hart (answer.Reply v) stamp)))
-            (sym (called.ranks
-            ∙ ap (λ z. slice_set c.ranks r (told y hart (answer.Reply z) called.stamp)) (sym at.0 ∙ told_v)))
-            (told_near c.ranks r hart y (answer.Reply v) called.stamp stamp));
-        hub = same_hub_on (hub_of then.journal) (all_outcome full r (posts_pending qs)).1 (all_arrived (behind w r q))
-            (subst (λ z. IsSameHub z (all_outcome full r (posts_pending qs)).1) (sym called.hubs) at.1) hub;
-        boxes = called.boxes;
-        goes = λ b near. same after turn (alike_of search after b near);
-      }
+  -- ---- it asks the hub once all has arrived, too
+
+  module _ (n : ℕ) (ns : List ℕ) (posts : posts_pending qs ≡ n ∷ ns) where
+    abbrev p : Request
+    p = request.All (posts_pending qs)
+
+    asks_y : asked y hart ≡ Ask.Hub p
+    asks_y = asks_then ∙ ap asked_all posts ∙ ap (λ ns. Ask.Hub (request.All ns)) (sym posts)
+
+    abbrev then : Cluster
+    then = next c r hart y p
+
+    turn : Turn r hart c then
+    turn = turn_of c r hart y p here asks_y
+
+    called : Called r hart c then y p
+    called = call_of r hart c then y p here asks_y turn
+
+    at : ((outcome full r p).0 ≡ (outcome h r p).0) × IsSameHub (outcome h r p).1 (outcome full r p).1
+    at = same_call h full r p a.arrived.hub
+
+    abbrev after : State search
+    after = record { cluster = then; good = good_after search r c then y here a.state.good within turn }
+
+    ranks_called : (v : Reply) → (all_outcome full r (posts_pending qs)).0 ≡ v
+        → then.ranks ≡ slice_set c.ranks r (told y hart (answer.Reply v) called.stamp)
+    ranks_called v is =
+        called.ranks ∙ ap (λ z. slice_set c.ranks r (told y hart (answer.Reply z) called.stamp)) (sym at.0 ∙ is)
+
+    -- it is told this by the hub
+    by_call : (u v : Reply) → reply_on_way w r q ≡ u → (all_outcome full r (posts_pending qs)).0 ≡ v
+        → IsSameHub (all_outcome full r (posts_pending qs)).1 (all_arrived (behind w r q))
+        → told_row x.site (gathers Blocking s (posts_pending qs)) (answer.Reply v) (met_part d part)
+        ≡ met_part d (told_row x.site (gathers Blocking s (posts_pending ps)) (answer.Reply u) part)
+        → Leads u
+    by_call u v is told_v hub row = record {
+      is = is;
+      state = after;
+      ranks = subst (λ z. AreNear then.ranks (slice_set c.ranks r z)) (sym (tells (answer.Reply u) (answer.Reply v) row))
+          (subst (λ xs. AreNear xs (slice_set c.ranks r (told y hart (answer.Reply v) stamp))) (sym (ranks_called v told_v))
+          (told_near c.ranks r hart y (answer.Reply v) called.stamp stamp));
+      hub = same_hub_on (hub_of then.journal) (all_outcome full r (posts_pending qs)).1 (all_arrived (behind w r q))
+          (subst (λ z. IsSameHub z (all_outcome full r (posts_pending qs)).1) (sym called.hubs) at.1) hub;
+      boxes = called.boxes;
+      goes = λ b near. same after turn (alike_of search after b near);
+    }
 
   -- it asks nobody once all has arrived
   alone : (u : Reply) → reply_on_way w r q ≡ u → posts_pending qs ≡ [] → IsSameHub full (all_arrived (behind w r q))
@@ -399,7 +411,7 @@ module _ (search : Search) (image : ImageParts) (a : WayState search image) (r :
         let is = by_number ps ∙ one in (
           reply.NotYet,
           waits_still (told_so ∙ ap (λ (o : Reply × HubView). o.0) is)
-          (subst (λ (o : Reply × HubView). IsSameHub o.1 (all_arrived (behind w r q))) is hub_so),
+              (subst (λ (o : Reply × HubView). IsSameHub o.1 (all_arrived (behind w r q))) is hub_so),
         )
     in_case (is_refused one two) = go (posts_pending qs) refl
       where
@@ -416,8 +428,8 @@ module _ (search : Search) (image : ImageParts) (a : WayState search image) (r :
             never e = (let f = ap (λ (o : Reply × HubView). o.0) e in absurd (cc))
         go (n ∷ ns) e = (
           reply.Code code.BadRequest,
-          by_call (reply.Code code.BadRequest) (reply.Code code.BadRequest)
-              (told_so ∙ ap (λ (o : Reply × HubView). o.0) is) n ns e (ap (λ (o : Reply × HubView). o.0) its)
+          by_call n ns e (reply.Code code.BadRequest) (reply.Code code.BadRequest)
+              (told_so ∙ ap (λ (o : Reply × HubView). o.0) is) (ap (λ (o : Reply × HubView). o.0) its)
               (subst (λ (o : Reply × HubView). IsSameHub o.1 (all_arrived (behind w r q))) (is ∙ sym its) hub_so)
               (code_row n ns e),
         )
@@ -443,7 +455,7 @@ module _ (search : Search) (image : ImageParts) (a : WayState search image) (r :
         )
         go (n ∷ ns) e = (
           reply.AllGot gots,
-          by_call (reply.AllGot gots) (reply.AllGot others) (told_so ∙ ap (λ (o : Reply × HubView). o.0) is) n ns e
+          by_call n ns e (reply.AllGot gots) (reply.AllGot others) (told_so ∙ ap (λ (o : Reply × HubView). o.0) is)
               (ap (λ (o : Reply × HubView). o.0) its)
               (subst (λ (o : Reply × HubView). IsSameHub o.1 (all_arrived (behind w r q))) (sym its) hub_then)
               (got_row n ns e),

@@ -1,9 +1,8 @@
 -- What a WAITALL gets, with and without synchronous sends that are complete.
-use Rattle.std.proofs.Common.{◌≡◌, ◌∙◌, ℕ, suc, ◌⊎◌, inl, inr, refl, sym, ap, subst, Bool, true, false, List, [], ◌∷◌, length, Option, Some, None}
-use Rattle.std.specs.Prelude.{◌&&◌, ◌||◌, ◌==◌, cond, map}
+use Rattle.std.proofs.Common.{◌≡◌, ◌∙◌, ℕ, suc, ◌⊎◌, inl, inr, refl, sym, ap, Bool, true, false, List, [], ◌∷◌, length, Option, Some, None}
+use Rattle.std.specs.Prelude.{◌&&◌, ◌||◌, cond}
 use Rattle.std.specs.List.{cons_option, list_all}
 use Rattle.std.specs.Option.{is_some}
-use Rattle.std.proofs.lemmas.Bool.{eq-eqb}
 use Rattle.mp_types.specs.declared.codes.Code.TheVariants as code
 use Rattle.mp_types.specs.declared.messages.Message.{Message}
 use Rattle.mp_types.specs.declared.replies.Reply.{Reply}
@@ -14,7 +13,7 @@ use Rattle.mp_hub.proofs.BoardKept.{collect_lines}
 use Rattle.cl_calls.specs.declared.sites.Site.{Site}
 use Rattle.cl_state.specs.declared.pending.Pending.{Pending}
 use Rattle.cl_state.specs.declared.pending.Pending.TheVariants as pending
-use Rattle.cl_state.specs.Several.{Given, are_fit, dealt, fits_one, given, given_one, post_of, posts_pending}
+use Rattle.cl_state.specs.Several.{Given, dealt, fits_one, given, given_one, post_of, posts_pending}
 use Rattle.cl_way_laws.specs.Met.{is_met}
 use Rattle.cl_way_laws.proofs.Posting.{met_complete, met_sends}
 
@@ -123,6 +122,7 @@ module _ (h : HubView) (r : ℕ) (site : Site) where
         ∙ ap (onto pending.Nothing None) (got_same ps qs less.1 b lines)
         ∙ ap (λ z. sum (z ∷ qs) (all_got r b (posts_pending (z ∷ qs)))) (sym m.3)
   ]
+
   -- ---- what is answered
 
   or_true : (a b : Bool) → b ≡ true → (a || b) ≡ true

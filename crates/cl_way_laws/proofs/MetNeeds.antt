@@ -66,8 +66,16 @@ module _ (d : ℕ → Bool) where
           → (pending_in (met_state d t (Ordinary (OnPost n))) t ≡ pending_in (Ordinary (OnPost n)) t)
           ⊎ ((k : ℕ) × IsMetAt (Ordinary (OnPost n)) t k)
       go true e =
-          inr (n, (e, refl, ap (λ b. pending_at (cond b Finished (OnPost n)) t) e,
-          ap (λ b. is_finished (Ordinary (cond b Finished (OnPost n)))) e, λ phases. refl))
+          inr (
+            n,
+            (
+              e,
+              refl,
+              ap (λ b. pending_at (cond b Finished (OnPost n)) t) e,
+              ap (λ b. is_finished (Ordinary (cond b Finished (OnPost n)))) e,
+              λ phases. refl,
+            ),
+          )
       go false e = inl (ap (λ b. pending_at (cond b Finished (OnPost n)) t) e)
   state_needs (Active (OnPost n)) (transfer.Send true buffer count dest tag comm) = go (d n) refl
     where
@@ -78,8 +86,16 @@ module _ (d : ℕ → Bool) where
           → (pending_in (met_state d t (Active (OnPost n))) t ≡ pending_in (Active (OnPost n)) t)
           ⊎ ((k : ℕ) × IsMetAt (Active (OnPost n)) t k)
       go true e =
-          inr (n, (e, refl, ap (λ b. pending_at (cond b Finished (OnPost n)) t) e,
-          ap (λ b. is_finished (Active (cond b Finished (OnPost n)))) e, λ phases. refl))
+          inr (
+            n,
+            (
+              e,
+              refl,
+              ap (λ b. pending_at (cond b Finished (OnPost n)) t) e,
+              ap (λ b. is_finished (Active (cond b Finished (OnPost n)))) e,
+              λ phases. refl,
+            ),
+          )
       go false e = inl (ap (λ b. pending_at (cond b Finished (OnPost n)) t) e)
   state_needs (Ordinary p) (transfer.Send false buffer count dest tag comm) = inl (ordinary p)
     where
@@ -135,13 +151,16 @@ module _ (d : ℕ → Bool) where
       go None e = inl (ap pending_of (went None e) ∙ sym (ap pending_of e))
       go (Some r) e = elim (state_needs r.state r.transfer) [
         | inl same ↦ inl (ap pending_of (went (Some r) e) ∙ same ∙ sym (ap pending_of e))
-        | inr m ↦ inr (m.0, record {
-          met = m.1.0;
-          waits = ap pending_of e ∙ m.1.1;
-          then = ap pending_of (went (Some r) e) ∙ m.1.2;
-          complete = ap is_complete_send (went (Some r) e) ∙ m.1.3;
-          apart = λ phases. ap (awaited phases) e ∙ m.1.4 phases;
-        })
+        | inr m ↦ inr (
+          m.0,
+          record {
+            met = m.1.0;
+            waits = ap pending_of e ∙ m.1.1;
+            then = ap pending_of (went (Some r) e) ∙ m.1.2;
+            complete = ap is_complete_send (went (Some r) e) ∙ m.1.3;
+            apart = λ phases. ap (awaited phases) e ∙ m.1.4 phases;
+          },
+        )
       ]
 
   -- ---- several requests
@@ -160,7 +179,7 @@ module _ (d : ℕ → Bool) where
     | inl one ↦ elim (all_need_or_met table handles) [
       | inl rest ↦ inl (λ k. one k ∷ rest k)
       | inr is ↦ inr (ap (λ b. is_complete_send (request_at (met_table d table) h) || b) is
-        ∙ or_true (is_complete_send (request_at (met_table d table) h)))
+          ∙ or_true (is_complete_send (request_at (met_table d table) h)))
     ]
     | inr m ↦ inr (ap (λ b. b || is_one_complete (met_table d table) handles) m.1.complete)
   ]

@@ -134,29 +134,6 @@ module _ (d : ℕ → Bool) where
   each_by table (h ∷ handles) =
       ap (λ t. completed_each t handles) (completed_met d table h) ∙ each_by (completed table h) handles
 
-  all_by : (site : Site) (value statuses : ℕ) (handles : List ℕ) (gots : List (Option Message)) (part : Part)
-      → AllNeedSame d part.requests handles
-      → Named (completed_all site value statuses handles gots) part
-  unfolding completed_all
-  all_by site value statuses handles gots part same =
-      ap (λ gs. ended (code_of gs) value
-      (part_with part.hart (with_statuses (with_all_bytes part.memory gs) statuses gs)
-      (completed_each (met_table d part.requests) handles) part.phases part.out))
-      (ap (λ ps. given site ps gots) same)
-      ∙ ends_with _ value part.hart _ _ _ part.phases part.out (each_by part.requests handles)
-
-  gathered_by : (site : Site) (value statuses : ℕ) (handles : List ℕ) (gots : List (Option Message)) (part : Part)
-      → AllNeedSame d part.requests handles
-      → Named (gathered site value statuses handles gots) part
-  gathered_by site value statuses handles gots part same =
-      ap (λ b. gathered_if b site value statuses handles gots (met_part d part))
-      (ap (λ ps. are_fit site ps gots) same)
-      ∙ go (are_fit site (pendings part.requests handles) gots)
-    where
-      go : (b : Bool) → Named (gathered_if b site value statuses handles gots) part
-      go true = all_by site value statuses handles gots part same
-      go false = ended_by code.BadRequest 0 part
-
   -- where each is given the same
   pub completes_by : (site : Site) (value statuses : ℕ) (handles : List ℕ) (gots others : List (Option Message)) (part : Part)
       → given site (pendings (met_table d part.requests) handles) others ≡ given site (pendings part.requests handles) gots
@@ -179,6 +156,21 @@ module _ (d : ℕ → Bool) where
   gathers_by true site value statuses handles gots others part same =
       completes_by site value statuses handles gots others part same
   gathers_by false site value statuses handles gots others part same = ended_by code.BadRequest 0 part
+
+  all_by : (site : Site) (value statuses : ℕ) (handles : List ℕ) (gots : List (Option Message)) (part : Part)
+      → AllNeedSame d part.requests handles
+      → Named (completed_all site value statuses handles gots) part
+  all_by site value statuses handles gots part same =
+      completes_by site value statuses handles gots gots part (ap (λ ps. given site ps gots) same)
+
+  gathered_by : (site : Site) (value statuses : ℕ) (handles : List ℕ) (gots : List (Option Message)) (part : Part)
+      → AllNeedSame d part.requests handles
+      → Named (gathered site value statuses handles gots) part
+  gathered_by site value statuses handles gots part same =
+      ap (λ b. gathered_if b site value statuses handles gots (met_part d part))
+      (ap (λ ps. are_fit site ps gots) same)
+      ∙ gathers_by (are_fit site (pendings part.requests handles) gots) site value statuses handles gots gots part
+      (ap (λ ps. given site ps gots) same)
 
   -- ---- probes
 

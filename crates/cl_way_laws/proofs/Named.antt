@@ -1,5 +1,5 @@
 -- The posts that a rank's requests name: each one once, and none but those that it named and the one that it is told of.
-use Rattle.std.proofs.Common.{◌≡◌, ◌∙◌, ℕ, zero, suc, ◌<◌, refl, ap, subst, sym, arith, Bool, true, false, List, [], ◌∷◌, Option, Some, None, inl, inr}
+use Rattle.std.proofs.Common.{◌≡◌, ◌∙◌, ℕ, zero, suc, ◌<◌, refl, ap, sym, arith, Bool, true, false, List, [], ◌∷◌, Option, Some, None, inl, inr}
 use Rattle.std.specs.Prelude.{◌⊎◌, get_or, replicate, set, option_map, if◌then◌else◌}
 use Rattle.std.specs.Option.{option_and_then}
 use Rattle.mp_types.specs.declared.messages.Envelope.{Envelope}

@@ -315,9 +315,11 @@ module _ (search : Search) (image : ImageParts) (waits_only : OnlyWaits search) 
   unfolding hub_behind else_behind
   turned r a last within (at_hub rank q stamp there inside asks is) =
       (hub_behind a r within rank there q stamp asks, sym is)
-  turned r a last within (elsewhere journal e next mine its is leads_there new_is) =
-      (else_behind a r within leads_there.0 (ap (slice_get a.now.ranks) (sym mine) ∙ leads_there.1) journal e next mine its
-      is leads_there.2 leads_there.3, sym new_is)
+  turned r a last within (elsewhere journal e next mine its is leads_there new_is) = (
+    else_behind a r within leads_there.0 (ap (slice_get a.now.ranks) (sym mine) ∙ leads_there.1) journal e next mine its
+        is leads_there.2 leads_there.3,
+    sym new_is,
+  )
 
   pub is_network : IsNetwork machine network
   is_network = record {

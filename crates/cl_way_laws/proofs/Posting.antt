@@ -298,7 +298,8 @@ module _ (w : WayView) (r : ℕ) (q : Request) where
 
       go : (room : Bool)
           → (let x : Reply × HubView = cond room (
-            reply.Posted (next_number h.board) (is_done h.board s), with_board h (posted_at_once h.board s bytes),
+            reply.Posted (next_number h.board) (is_done h.board s),
+            with_board h (posted_at_once h.board s bytes),
           ) (reply.Code code.Full, h) in x.0) ≡ reply.Posted n b
           → is_some (partner_for (lines_now w) (Send s)) ≡ b
       go true told = cc

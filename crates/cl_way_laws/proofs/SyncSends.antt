@@ -121,16 +121,16 @@ module _ (site : Site) (memory : Memory) (table : Table) (phases : List Phase) w
   call_sync (call.Ssend s) is = tt
   call_sync (call.Issend s) is = tt
   call_sync (call.Start handle) is = tt
-  call_sync (call.Send s) is = 
+  call_sync (call.Send s) is =
       absurd (transfer_none true (s.dest == no_rank) transfer.SendToNull
       (transfer.Send false s.buffer s.count (member site s.comm s.dest) s.tag s.comm) (λ k. k) (λ k. k) is)
-  call_sync (call.Isend s) is = 
+  call_sync (call.Isend s) is =
       absurd (transfer_none false (s.dest == no_rank) transfer.SendToNull
       (transfer.Send false s.buffer s.count (member site s.comm s.dest) s.tag s.comm) (λ k. k) (λ k. k) is)
-  call_sync (call.Recv r status) is = 
+  call_sync (call.Recv r status) is =
       absurd (transfer_none true (r.source == no_rank) transfer.ReceiveFromNull
       (transfer.Receive r.buffer r.capacity (source_of site r.comm r.source) (tag_of r.tag) r.comm) (λ k. k) (λ k. k) is)
-  call_sync (call.Irecv r) is = 
+  call_sync (call.Irecv r) is =
       absurd (transfer_none false (r.source == no_rank) transfer.ReceiveFromNull
       (transfer.Receive r.buffer r.capacity (source_of site r.comm r.source) (tag_of r.tag) r.comm) (λ k. k) (λ k. k) is)
   call_sync (call.Test c) is =
