@@ -18,6 +18,7 @@ use Rattle.cl_state_laws.specs.Vain.{IsWaiting, mode_of, waits_on}
 use Rattle.cl_machine.specs.Cluster.{Cluster}
 use Rattle.cl_order_laws.specs.Closed.{IsInVain, Node}
 use Rattle.cl_reduction_laws.specs.Below.{AskWithin}
+use Rattle.cl_reduction_laws.specs.Complete.{PollWithin}
 use Rattle.cl_reduction_laws.specs.Patterns.{IsAllowed, pattern_of_ask}
 use Rattle.cl_rest_laws.specs.Rests.{rests as rests_of}
 use Rattle.cl_reduction_laws.specs.Settled.{AreOnSides, FindsClaim, IsFit, IsThere}
@@ -25,7 +26,7 @@ use Rattle.cl_moves.specs.Standing.{StandsAt}
 use Rattle.cl_moves.specs.declared.standing.Standing.{Standing}
 use Rattle.cl_contests.specs.declared.patterns.AskedBy.{AskedBy}
 use Rattle.cl_contests.specs.Fits.{IsFitRank}
-use Rattle.cl_contests.specs.Kept.{patterns_of, search_of, wild_of}
+use Rattle.cl_contests.specs.Kept.{patterns_of, polls_of, search_of, wild_of}
 
 -- a claim that isn't in vain finds its message
 pub claim_found : (c : Cluster) (r : ℕ) (q : Request) {comm : ℕ} {source tag : Option ℕ} → q ≡ request.Claim comm source tag
@@ -36,16 +37,18 @@ claim_found c r q {comm} {source} {tag} is there =
 -- by what its turn was found to be, and what it was found to ask
 pub fit_rank : (may_wait : Bool) (kept : List AskedBy) (c : Cluster) (r : ℕ) (rank : Rank) (d : Doing) (ask : Ask) (waits : Bool)
     → d ≡ doing rank.site (part_of rank 0) → waits ≡ waits_on d → ask ≡ asked rank 0
-    → IsAllowed (patterns_of kept) r (pattern_of_ask waits ask) → AskWithin (wild_of kept) r ask → StandsAtCall rank 0
+    → IsAllowed (patterns_of kept) r (pattern_of_ask waits ask) → AskWithin (wild_of kept) r ask
+    → PollWithin (polls_of kept) r rank 0 → StandsAtCall rank 0
     → (waits ≡ true → (IsWaiting (mode_of rank 0) × IsInVain c r ask)
     ⊎ (FindsClaim c r ask ⊎ ((rests_of c r 0 ≡ true) × IsThere c r ask)))
     → IsFitRank (search_of may_wait kept) c r rank
-fit_rank may_wait kept c r rank d ask waits spelled anew asks allowed within stands rests =
+fit_rank may_wait kept c r rank d ask waits spelled anew asks allowed within polls stands rests =
     let known : waits ≡ waits_on (doing rank.site (part_of rank 0)) = anew ∙ ap waits_on spelled in
     record {
       allowed = subst (λ w. IsAllowed (patterns_of kept) r (pattern_of_ask w (asked rank 0))) known
           (subst (λ a. IsAllowed (patterns_of kept) r (pattern_of_ask waits a)) asks allowed);
       within = subst (AskWithin (wild_of kept) r) asks within;
+      polls = polls;
       rests = λ on.
           elim (rests (known ∙ on)) [
             | inl v ↦ inl (record { waits = v.0; on = on }, subst (IsInVain c r) asks v.1)
@@ -82,7 +85,7 @@ module _ (image : ImageParts) (standing : Standing) (node : Node) (stands : Stan
   all_fit may_wait kept room waits sides each =
       let fits = each_rank (λ r rank. IsFitRank (search_of may_wait kept) node.cluster r rank) each in
       record {
-        within = λ r rank there. let v = fits r rank there in (v.allowed, v.within);
+        within = λ r rank there. let v = fits r rank there in (v.allowed, v.within, v.polls);
         waits = subst (WaitsWithin (wild_of kept)) stands.whole waits;
         room = subst (λ (h : HubView). length (h.board).lines + 3 < 65536) stands.whole room;
         rests = λ r rank there. (fits r rank there).rests;

@@ -29,11 +29,12 @@ use Rattle.cl_moves.proofs.Resting.{own_at}
 use Rattle.cl_moves.proofs.Surely.{reached_by}
 use Rattle.cl_rest_laws.specs.Rests.{rests}
 use Rattle.cl_reduction_laws.specs.Clusters.{Search, awake_cluster}
+use Rattle.cl_reduction_laws.specs.Complete.{PollWithin}
 use Rattle.cl_reduction_laws.specs.Patterns.{IsAllowed, MayMeet, pattern_of, pattern_of_ask}
 use Rattle.cl_reduction_laws.specs.Settled.{AllWithin}
 use Rattle.cl_contests.specs.declared.patterns.AskedBy.{AskedBy}
 use Rattle.cl_contests.specs.Going.{IsFirstHart, IsSettledThere, LeadsOn, SettlesFrom}
-use Rattle.cl_contests.specs.Kept.{patterns_of, search_of, wild_of}
+use Rattle.cl_contests.specs.Kept.{patterns_of, polls_of, search_of, wild_of}
 use Rattle.cl_contests.specs.Turns.{AsksWithin, GoesAlone, GoesInVain, GoesWithin, IsBusyKind, IsBusyTurn, IsFirstCall}
 use Rattle.cl_contests.specs.Turns.{IsFirstNext, IsFirstTurn, IsMaking, IsMeetingCall, IsMeetingNext, IsMeetingTurn}
 use Rattle.cl_contests.specs.Turns.{IsUncontested, IsVainCall, IsVainNext, IsVainTurn, MayGoFirst, TellsWithin}
@@ -106,10 +107,10 @@ module _ (c : Cluster) (e : Step) (x : Rank) (stamp : e.stamp ≡ x.clock + 1) w
   case_is (Ask.Freed link part) kind asks is = absurd is
 
 -- it is a step of the machine
-busy_step : (may_wait : Bool) (old : Standing) (e : Step) (turn : IsBusyTurn may_wait old e) (c : Cluster)
+busy_step : (search : Search) (old : Standing) (e : Step) (turn : IsBusyTurn search old e) (c : Cluster)
     → slice_get c.ranks e.rank ≡ Some (rank_of turn.own)
     → IsStep c e (only_told c e (rank_of turn.own) Answer.Alone)
-busy_step may_wait old e turn c there = (
+busy_step search old e turn c there = (
   rank_of turn.own,
   there,
   subst (λ h. h < length turn.own.harts.items) (sym turn.hart_is) turn.inside,
@@ -118,26 +119,27 @@ busy_step may_wait old e turn c there = (
       (subst (λ h. IsBusyKind (asked (rank_of turn.own) h) e.kind) (sym turn.hart_is) turn.busy),
 )
 
-pub alone_taken : (may_wait : Bool) (old new : Standing) (e : Step) → IsBusyTurn may_wait old e → (b : Bool) → Takes old e new b
-    → GoesAlone may_wait old new
-alone_taken may_wait old new e turn true took = λ order kept first.
+pub alone_taken : (may_wait : Bool) (kept : List AskedBy) (old new : Standing) (e : Step)
+    → IsBusyTurn (search_of may_wait kept) old e → (b : Bool) → Takes old e new b → GoesAlone (search_of may_wait kept) old new
+alone_taken may_wait kept old new e turn true took = λ order first.
     leads_by order (SettlesFrom (search_of may_wait kept)) old new e turn.own first took turn.there turn.hart_is
     (λ image here next stands there reached step.
     settles_alone (search_of may_wait kept) here.cluster next e (rank_of turn.own) there turn.hart_is step
-    (goes_anyway may_wait old e.rank turn.anyway image here stands) (busy_of (asked (rank_of turn.own) 0) e.kind turn.busy))
-alone_taken may_wait old new e turn false none = λ order kept first image start here stands way reached.
+    (goes_anyway may_wait old e.rank turn.anyway image here stands) (busy_of (asked (rank_of turn.own) 0) e.kind turn.busy)
+    turn.polls)
+alone_taken may_wait kept old new e turn false none = λ order first image start here stands way reached.
     absurd (none image here _ stands
-    (busy_step may_wait old e turn here.cluster (own_at image old.cluster here.cluster stands.stands e.rank turn.own turn.there)))
+    (busy_step (search_of may_wait kept) old e turn here.cluster (own_at image old.cluster here.cluster stands.stands e.rank turn.own turn.there)))
 
-pub alone_stays : (may_wait : Bool) (old : Standing) → GoesAlone may_wait old old
-alone_stays may_wait old = λ order kept first.
-    leads_stay order (SettlesFrom (search_of may_wait kept)) old (λ c reached node settled. settled)
+pub alone_stays : (search : Search) (old : Standing) → GoesAlone search old old
+alone_stays search old = λ order first.
+    leads_stay order (SettlesFrom search) old (λ c reached node settled. settled)
 
-pub alone_more : (may_wait : Bool) (old mid new : Standing) → GoesAlone may_wait old mid → GoesAlone may_wait mid new
-    → GoesAlone may_wait old new
-alone_more may_wait old mid new one two = λ order kept first.
-    leads_more order (SettlesFrom (search_of may_wait kept)) old mid new (λ a b c f g node settled. f node (g node settled))
-    (one order kept first) (two order kept first)
+pub alone_more : (search : Search) (old mid new : Standing) → GoesAlone search old mid → GoesAlone search mid new
+    → GoesAlone search old new
+alone_more search old mid new one two = λ order first.
+    leads_more order (SettlesFrom search) old mid new (λ a b c f g node settled. f node (g node settled))
+    (one order first) (two order first)
 
 -- ---- what is told of a turn
 
@@ -188,11 +190,13 @@ pub asks_of : (may_wait : Bool) (kept : List AskedBy) (r : ℕ) (own : RankState
     → waits ≡ waits_on d
     → d ≡ doing own.site (part_of (rank_of own) 0) → ask ≡ asked (rank_of own) 0
     → IsAllowed (patterns_of kept) r (pattern_of_ask waits ask) → AskWithin (wild_of kept) r ask
+    → PollWithin (polls_of kept) r (rank_of own) 0
     → AsksWithin (search_of may_wait kept) r own
-asks_of may_wait kept r own waits d ask waits_is spelled asks allowed within = (
+asks_of may_wait kept r own waits d ask waits_is spelled asks allowed within polls = (
   subst (λ a. IsAllowed (patterns_of kept) r (pattern_of_ask (waits_on (doing own.site (part_of (rank_of own) 0))) a)) asks
       (subst (λ w. IsAllowed (patterns_of kept) r (pattern_of_ask w ask)) (waits_is ∙ ap waits_on spelled) allowed),
   subst (AskWithin (wild_of kept) r) asks within,
+  polls,
 )
 
 module _ (may_wait : Bool) (kept : List AskedBy) (standing : Standing) where
@@ -213,9 +217,11 @@ module _ (may_wait : Bool) (kept : List AskedBy) (standing : Standing) where
 
       go : (o : Option RankState) → slice_get items r ≡ o → option_map rank_of o ≡ Some x
           → IsAllowed search.patterns r (pattern_of x 0) × AskWithin search.wild r (asked x 0)
+          × PollWithin search.polls_of_complete r x 0
       go None is same = absurd (cc)
       go (Some own) is same =
-          subst (λ z. IsAllowed search.patterns r (pattern_of z 0) × AskWithin search.wild r (asked z 0))
+          subst (λ z. IsAllowed search.patterns r (pattern_of z 0) × AskWithin search.wild r (asked z 0)
+          × PollWithin search.polls_of_complete r z 0)
           (same_Some (rank_of own) x same) (each r own is)
 
 -- ---- turns that nobody contests
@@ -232,9 +238,9 @@ within_more may_wait kept old mid new one two = λ all order first.
     leads_more order (SettlesFrom (search_of may_wait kept)) old mid new (λ a b c f g node settled. f node (g node settled))
     (one refl order first) (two refl order first)
 
-pub within_alone : (may_wait : Bool) (kept : List AskedBy) (old new : Standing) → GoesAlone may_wait old new
+pub within_alone : (may_wait : Bool) (kept : List AskedBy) (old new : Standing) → GoesAlone (search_of may_wait kept) old new
     → GoesWithin (search_of may_wait kept) old new true
-within_alone may_wait kept old new one = λ all order first. one order kept first
+within_alone may_wait kept old new one = λ all order first. one order first
 
 pub first_taken : (may_wait : Bool) (kept : List AskedBy) (old new : Standing) (e : Step)
     → TellsWithin (search_of may_wait kept) old true

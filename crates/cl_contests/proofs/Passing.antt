@@ -166,6 +166,9 @@ module _ (kept : List AskedBy) (r : ℕ) (q : Request) (a : AskedBy) where
   pub passes_source : (comm : ℕ) → a.pattern ≡ pattern.AnySource comm → MayPassKept kept r q a
   passes_source comm is = by (pattern.AnySource comm) is (λ p same. absurd (cc))
 
+  pub passes_complete : a.pattern ≡ pattern.PollOfComplete → MayPassKept kept r q a
+  passes_complete is = by pattern.PollOfComplete is (λ p same. absurd (cc))
+
   pub passes_initialisation : (sends : Bool) (comm peer tag bytes : ℕ) → a.pattern ≡ pattern.Initialisation sends comm peer tag bytes
       → MayPassKept kept r q a
   passes_initialisation sends comm peer tag bytes is = by (pattern.Initialisation sends comm peer tag bytes) is each
@@ -439,6 +442,7 @@ wanted_is (pattern.Send sync dest comm) (pattern.Initialisation gives where_to w
 wanted_is (pattern.Send sync dest comm) pattern.PollOfCuts is = absurd (cc)
 wanted_is (pattern.Send sync dest comm) (pattern.BySender other) is = absurd (cc)
 wanted_is (pattern.Send sync dest comm) (pattern.ByReceiver other) is = absurd (cc)
+wanted_is (pattern.Send sync dest comm) pattern.PollOfComplete is = absurd (cc)
 wanted_is pattern.Receive (pattern.Send its to other) is = absurd (cc)
 wanted_is pattern.Receive pattern.Receive is = refl
 wanted_is pattern.Receive pattern.Poll is = absurd (cc)
@@ -449,6 +453,7 @@ wanted_is pattern.Receive (pattern.Initialisation gives where_to whom label many
 wanted_is pattern.Receive pattern.PollOfCuts is = absurd (cc)
 wanted_is pattern.Receive (pattern.BySender other) is = absurd (cc)
 wanted_is pattern.Receive (pattern.ByReceiver other) is = absurd (cc)
+wanted_is pattern.Receive pattern.PollOfComplete is = absurd (cc)
 wanted_is pattern.Poll (pattern.Send its to other) is = absurd (cc)
 wanted_is pattern.Poll pattern.Receive is = absurd (cc)
 wanted_is pattern.Poll pattern.Poll is = refl
@@ -459,6 +464,7 @@ wanted_is pattern.Poll (pattern.Initialisation gives where_to whom label many) i
 wanted_is pattern.Poll pattern.PollOfCuts is = absurd (cc)
 wanted_is pattern.Poll (pattern.BySender other) is = absurd (cc)
 wanted_is pattern.Poll (pattern.ByReceiver other) is = absurd (cc)
+wanted_is pattern.Poll pattern.PollOfComplete is = absurd (cc)
 wanted_is pattern.PollOfSends (pattern.Send its to other) is = absurd (cc)
 wanted_is pattern.PollOfSends pattern.Receive is = absurd (cc)
 wanted_is pattern.PollOfSends pattern.Poll is = absurd (cc)
@@ -469,6 +475,7 @@ wanted_is pattern.PollOfSends (pattern.Initialisation gives where_to whom label 
 wanted_is pattern.PollOfSends pattern.PollOfCuts is = absurd (cc)
 wanted_is pattern.PollOfSends (pattern.BySender other) is = absurd (cc)
 wanted_is pattern.PollOfSends (pattern.ByReceiver other) is = absurd (cc)
+wanted_is pattern.PollOfSends pattern.PollOfComplete is = absurd (cc)
 wanted_is pattern.Claim (pattern.Send its to other) is = absurd (cc)
 wanted_is pattern.Claim pattern.Receive is = absurd (cc)
 wanted_is pattern.Claim pattern.Poll is = absurd (cc)
@@ -479,6 +486,7 @@ wanted_is pattern.Claim (pattern.Initialisation gives where_to whom label many) 
 wanted_is pattern.Claim pattern.PollOfCuts is = absurd (cc)
 wanted_is pattern.Claim (pattern.BySender other) is = absurd (cc)
 wanted_is pattern.Claim (pattern.ByReceiver other) is = absurd (cc)
+wanted_is pattern.Claim pattern.PollOfComplete is = absurd (cc)
 wanted_is (pattern.AnySource comm) (pattern.Send its to other) is = absurd (cc)
 wanted_is (pattern.AnySource comm) pattern.Receive is = absurd (cc)
 wanted_is (pattern.AnySource comm) pattern.Poll is = absurd (cc)
@@ -489,6 +497,7 @@ wanted_is (pattern.AnySource comm) (pattern.Initialisation gives where_to whom l
 wanted_is (pattern.AnySource comm) pattern.PollOfCuts is = absurd (cc)
 wanted_is (pattern.AnySource comm) (pattern.BySender other) is = absurd (cc)
 wanted_is (pattern.AnySource comm) (pattern.ByReceiver other) is = absurd (cc)
+wanted_is (pattern.AnySource comm) pattern.PollOfComplete is = absurd (cc)
 wanted_is (pattern.Initialisation sends comm peer tag bytes) (pattern.Send its to other) is = absurd (cc)
 wanted_is (pattern.Initialisation sends comm peer tag bytes) pattern.Receive is = absurd (cc)
 wanted_is (pattern.Initialisation sends comm peer tag bytes) pattern.Poll is = absurd (cc)
@@ -509,6 +518,7 @@ wanted_is (pattern.Initialisation sends comm peer tag bytes) (pattern.Initialisa
 wanted_is (pattern.Initialisation sends comm peer tag bytes) pattern.PollOfCuts is = absurd (cc)
 wanted_is (pattern.Initialisation sends comm peer tag bytes) (pattern.BySender other) is = absurd (cc)
 wanted_is (pattern.Initialisation sends comm peer tag bytes) (pattern.ByReceiver other) is = absurd (cc)
+wanted_is (pattern.Initialisation sends comm peer tag bytes) pattern.PollOfComplete is = absurd (cc)
 wanted_is pattern.PollOfCuts (pattern.Send its to other) is = absurd (cc)
 wanted_is pattern.PollOfCuts pattern.Receive is = absurd (cc)
 wanted_is pattern.PollOfCuts pattern.Poll is = absurd (cc)
@@ -519,6 +529,7 @@ wanted_is pattern.PollOfCuts (pattern.Initialisation gives where_to whom label m
 wanted_is pattern.PollOfCuts pattern.PollOfCuts is = refl
 wanted_is pattern.PollOfCuts (pattern.BySender other) is = absurd (cc)
 wanted_is pattern.PollOfCuts (pattern.ByReceiver other) is = absurd (cc)
+wanted_is pattern.PollOfCuts pattern.PollOfComplete is = absurd (cc)
 wanted_is (pattern.BySender link) (pattern.Send its to other) is = absurd (cc)
 wanted_is (pattern.BySender link) pattern.Receive is = absurd (cc)
 wanted_is (pattern.BySender link) pattern.Poll is = absurd (cc)
@@ -529,6 +540,7 @@ wanted_is (pattern.BySender link) (pattern.Initialisation gives where_to whom la
 wanted_is (pattern.BySender link) pattern.PollOfCuts is = absurd (cc)
 wanted_is (pattern.BySender link) (pattern.BySender other) is = ap (λ c. pattern.BySender c) (eqb-true other link is)
 wanted_is (pattern.BySender link) (pattern.ByReceiver other) is = absurd (cc)
+wanted_is (pattern.BySender link) pattern.PollOfComplete is = absurd (cc)
 wanted_is (pattern.ByReceiver link) (pattern.Send its to other) is = absurd (cc)
 wanted_is (pattern.ByReceiver link) pattern.Receive is = absurd (cc)
 wanted_is (pattern.ByReceiver link) pattern.Poll is = absurd (cc)
@@ -539,6 +551,18 @@ wanted_is (pattern.ByReceiver link) (pattern.Initialisation gives where_to whom 
 wanted_is (pattern.ByReceiver link) pattern.PollOfCuts is = absurd (cc)
 wanted_is (pattern.ByReceiver link) (pattern.BySender other) is = absurd (cc)
 wanted_is (pattern.ByReceiver link) (pattern.ByReceiver other) is = ap (λ c. pattern.ByReceiver c) (eqb-true other link is)
+wanted_is (pattern.ByReceiver link) pattern.PollOfComplete is = absurd (cc)
+wanted_is pattern.PollOfComplete (pattern.Send its to other) is = absurd (cc)
+wanted_is pattern.PollOfComplete pattern.Receive is = absurd (cc)
+wanted_is pattern.PollOfComplete pattern.Poll is = absurd (cc)
+wanted_is pattern.PollOfComplete pattern.PollOfSends is = absurd (cc)
+wanted_is pattern.PollOfComplete pattern.Claim is = absurd (cc)
+wanted_is pattern.PollOfComplete (pattern.AnySource other) is = absurd (cc)
+wanted_is pattern.PollOfComplete (pattern.Initialisation gives where_to whom label many) is = absurd (cc)
+wanted_is pattern.PollOfComplete pattern.PollOfCuts is = absurd (cc)
+wanted_is pattern.PollOfComplete (pattern.BySender other) is = absurd (cc)
+wanted_is pattern.PollOfComplete (pattern.ByReceiver other) is = absurd (cc)
+wanted_is pattern.PollOfComplete pattern.PollOfComplete is = refl
 
 pub here : (xs : List AskedBy) (i : ℕ) (none : AskedBy) → i < length xs → slice_get xs i ≡ Some (get_or xs i none)
 here [] i none low = absurd (omega (arith, low))

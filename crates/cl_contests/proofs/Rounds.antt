@@ -14,6 +14,7 @@ use Rattle.cl_moves.specs.declared.standing.Standing.{Standing}
 use Rattle.cl_moves.proofs.Going.{NeedsOnlyIts}
 use Rattle.cl_moves.proofs.Resting.{own_at}
 use Rattle.cl_moves.proofs.Watched.{LeavesTrail, trail_back, trail_shown, trail_starts, trail_taken}
+use Rattle.cl_reduction_laws.specs.Clusters.{Search}
 use Rattle.cl_contests.specs.Going.{IsFirstHart}
 use Rattle.cl_contests.specs.Turns.{GoesRoundAlone, IsBusyKind, IsBusyTurn}
 
@@ -22,9 +23,9 @@ needs_of Ask.Plain kind is = tt
 needs_of Ask.Local kind is = tt
 needs_of _ kind is = absurd is
 
-busy_needs : (may_wait : Bool) (order : List ℕ) → IsFirstHart order → (standing : Standing) (e : Step)
-    → IsBusyTurn may_wait standing e → NeedsOnlyIts order standing e
-busy_needs may_wait order first standing e turn = λ image here stands. (
+busy_needs : (search : Search) (order : List ℕ) → IsFirstHart order → (standing : Standing) (e : Step)
+    → IsBusyTurn search standing e → NeedsOnlyIts order standing e
+busy_needs search order first standing e turn = λ image here stands. (
   rank_of turn.own,
   own_at image standing.cluster here.cluster stands.stands e.rank turn.own turn.there,
   turn.hart_is ∙ sym (first (here.had e.rank)),
@@ -39,10 +40,10 @@ LeavesTrails r least old new kept =
 pub trails_start : (r : ℕ) (old : Standing) (kept : Option Rank) → kept ≡ None → LeavesTrails r 0 old old kept
 trails_start r old kept none = λ order first. trail_starts order (0 ∷ []) r old kept none
 
-pub trails_taken : (may_wait : Bool) (r : ℕ) (old mid new : Standing) (kept : Option Rank) (e : Step) → e.rank ≡ r
-    → IsBusyTurn may_wait mid e → Took mid e new → LeavesTrails r 0 old mid kept → LeavesTrails r 1 old new kept
-trails_taken may_wait r old mid new kept e is turn took trails = λ order first.
-    trail_taken order (0 ∷ []) r 0 old mid new kept e is (busy_needs may_wait order first mid e turn) took (trails order first)
+pub trails_taken : (search : Search) (r : ℕ) (old mid new : Standing) (kept : Option Rank) (e : Step) → e.rank ≡ r
+    → IsBusyTurn search mid e → Took mid e new → LeavesTrails r 0 old mid kept → LeavesTrails r 1 old new kept
+trails_taken search r old mid new kept e is turn took trails = λ order first.
+    trail_taken order (0 ∷ []) r 0 old mid new kept e is (busy_needs search order first mid e turn) took (trails order first)
 
 pub trails_shown : (r : ℕ) (old new : Standing) (watch after : Watch) → LeavesTrails r 1 old new (kept_in watch)
     → KeepsAt (0 ∷ []) new r watch after → LeavesTrails r 0 old new (kept_in after)

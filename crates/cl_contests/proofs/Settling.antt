@@ -34,6 +34,7 @@ use Rattle.cl_moves.specs.Sure.{IsReadyKind}
 use Rattle.cl_moves.proofs.Asking.{move}
 use Rattle.cl_reduction_laws.specs.Clusters.{CanGo, FindsBox, GoesAnyway, GoesFirst, IsStill, IsWithin, Search, alone}
 use Rattle.cl_reduction_laws.specs.Clusters.{awake_cluster, collects, initialises, lone, meets, posts}
+use Rattle.cl_reduction_laws.specs.Complete.{PollWithin}
 use Rattle.cl_reduction_laws.specs.Patterns.{IsAllowed, MayMeet, Pattern, at_box, by_receiver, by_sender, pattern_of, pattern_of_ask, unlisted}
 use Rattle.cl_reduction_laws.specs.Settled.{AllWithin, Settles}
 use Rattle.cl_reduction_laws.proofs.Awake.{clusters_awake}
@@ -141,11 +142,14 @@ module _ (search : Search) (c next : Cluster) (e : Step) (x : Rank) (there : sli
   settles_call anyway within first q asks = settles_only anyway within first (subst IsOnly (sym asks) tt)
 
   -- a turn that needs only its rank: each other rank asks what it asked
-  within_own : IsBusy (asked x (search.harts e.rank)) → IsWithin search c e.rank
-  within_own busy z at =
+  within_own : IsBusy (asked x (search.harts e.rank)) → PollWithin search.polls_of_complete e.rank x (search.harts e.rank)
+      → IsWithin search c e.rank
+  within_own busy polls z at =
+      let its = go (asked x (search.harts e.rank)) busy in
       subst (λ y. IsAllowed search.patterns e.rank (pattern_of y (search.harts e.rank))
-      × AskWithin search.wild e.rank (asked y (search.harts e.rank))) (same_Some x z (sym there ∙ at))
-      (go (asked x (search.harts e.rank)) busy)
+      × AskWithin search.wild e.rank (asked y (search.harts e.rank))
+      × PollWithin search.polls_of_complete e.rank y (search.harts e.rank)) (same_Some x z (sym there ∙ at))
+      (its.0, its.1, polls)
     where
       go : (a : Ask) → IsBusy a
           → IsAllowed search.patterns e.rank
@@ -154,17 +158,19 @@ module _ (search : Search) (c next : Cluster) (e : Step) (x : Rank) (there : sli
       go Ask.Local is = (tt, tt)
       go _ is = absurd is
 
-  within_back : IsBusy (asked x (search.harts e.rank)) → AllWithin search next → AllWithin search c
-  within_back busy within r = elim (cases_eq e.rank r) [
-    | inl same ↦ subst (IsWithin search c) same (within_own busy)
+  within_back : IsBusy (asked x (search.harts e.rank)) → PollWithin search.polls_of_complete e.rank x (search.harts e.rank)
+      → AllWithin search next → AllWithin search c
+  within_back busy polls within r = elim (cases_eq e.rank r) [
+    | inl same ↦ subst (IsWithin search c) same (within_own busy polls)
     | inr apart ↦ λ z at.
         within r z (kept_rank e.rank (search.harts e.rank) r c next turn apart ∙ at)
   ]
 
-  pub settles_alone : GoesAnyway search c e.rank → IsBusy (asked x (search.harts e.rank)) → SettlesFrom search c next
-  settles_alone anyway busy = λ node settled.
+  pub settles_alone : GoesAnyway search c e.rank → IsBusy (asked x (search.harts e.rank))
+      → PollWithin search.polls_of_complete e.rank x (search.harts e.rank) → SettlesFrom search c next
+  settles_alone anyway busy polls = λ node settled.
       settles_only anyway
-      (within_back busy (settled_within search (λ z. z ≡ node) settled.0 next settled.1))
+      (within_back busy polls (settled_within search (λ z. z ≡ node) settled.0 next settled.1))
       (alone busy) (busy_only (asked x (search.harts e.rank)) busy) node settled
 
   -- a call, whose reply is in the turn

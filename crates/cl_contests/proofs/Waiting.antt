@@ -5,8 +5,8 @@ use Rattle.std.proofs.Common.{sym, ap, ◌∙◌, subst, arith, inl, inr}
 use Rattle.std.proofs.lemmas.Bool.{and_parts, cases_Bool, cases_eq}
 use Rattle.std.proofs.lemmas.Option.{same_Some, slice_get_within}
 use Rattle.cl_contests.specs.declared.patterns.AskedBy.{AskedBy}
-use Rattle.cl_reduction_laws.specs.Patterns.{claim, poll, poll_of_sends, send}
-use Rattle.cl_contests.specs.Kept.{is_any_source, is_pattern, search_of}
+use Rattle.cl_reduction_laws.specs.Patterns.{claim, poll, poll_of_sends}
+use Rattle.cl_contests.specs.Kept.{is_any_source, is_pattern, is_poll_of_complete, search_of}
 use Rattle.cl_contests.specs.Passing.{IsWaitKept}
 use Rattle.cl_contests.specs.Waiting.{OnlyWaits}
 use Rattle.cl_contests.proofs.Passing.{here, of_any}
@@ -44,5 +44,5 @@ module _ (may_wait : Bool) (kept : List AskedBy) (n : ℕ) (each : AreWaitsBelow
     claims = λ r. none (λ (a : AskedBy). is_pattern a.pattern claim) (λ a its. its.claims) r;
     polls = λ r. none (λ (a : AskedBy). is_pattern a.pattern poll) (λ a its. its.polls) r;
     polls_of_sends = λ r. none (λ (a : AskedBy). is_pattern a.pattern poll_of_sends) (λ a its. its.polls_of_sends) r;
-    synchronous = λ r dest comm. none (λ (a : AskedBy). is_pattern a.pattern (send true dest comm)) (λ a its. its.synchronous dest comm) r;
+    polls_of_complete = λ r. none (λ (a : AskedBy). is_poll_of_complete a.pattern) (λ a its. its.polls_of_complete) r;
   }

@@ -3,6 +3,7 @@ use Rattle.std.specs.Prelude.{ℕ, ◌==◌, ◌&&◌, Bool, true, false, not, L
 use Rattle.std.specs.List.{list_any}
 use Rattle.mp_source_laws.specs.Alike.{Wild}
 use Rattle.cl_reduction_laws.specs.Clusters.{Search}
+use Rattle.cl_reduction_laws.specs.Complete.{PollsOfComplete}
 use Rattle.cl_reduction_laws.specs.Patterns.{Pattern as Asked, Patterns, by_receiver, by_sender, claim, initialisation, poll, poll_of_cuts, poll_of_sends, receive, send}
 use Rattle.cl_contests.specs.declared.patterns.AskedBy.{AskedBy}
 use Rattle.cl_contests.specs.declared.patterns.Pattern.{Pattern}
@@ -31,6 +32,11 @@ abbrev pub is_any_source : Pattern → ℕ → Bool
 is_any_source (pattern.AnySource comm) other = comm == other
 is_any_source _ other = false
 
+-- it is a poll of a synchronous send that was complete as it was made
+abbrev pub is_poll_of_complete : Pattern → Bool
+is_poll_of_complete pattern.PollOfComplete = true
+is_poll_of_complete _ = false
+
 -- what each rank may ask
 abbrev pub patterns_of : List AskedBy → Patterns
 patterns_of kept r p = list_any (λ (a : AskedBy). (a.rank == r) && is_pattern a.pattern p) kept
@@ -39,7 +45,17 @@ patterns_of kept r p = list_any (λ (a : AskedBy). (a.rank == r) && is_pattern a
 abbrev pub wild_of : List AskedBy → Wild
 wild_of kept r comm = list_any (λ (a : AskedBy). (a.rank == r) && is_any_source a.pattern comm) kept
 
+-- whether it may poll such sends
+abbrev pub polls_of : List AskedBy → PollsOfComplete
+polls_of kept r = list_any (λ (a : AskedBy). (a.rank == r) && is_poll_of_complete a.pattern) kept
+
 -- the first hart of each rank takes its turns. Standard sends may wait for their receives, or don't
 abbrev pub search_of : Bool → List AskedBy → Search
 search_of may_wait kept =
-    record { wild = wild_of kept; patterns = patterns_of kept; harts = λ r. 0; may_wait = may_wait }
+    record {
+      wild = wild_of kept;
+      polls_of_complete = polls_of kept;
+      patterns = patterns_of kept;
+      harts = λ r. 0;
+      may_wait = may_wait;
+    }

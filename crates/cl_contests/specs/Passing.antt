@@ -10,7 +10,7 @@ use Rattle.cl_reduction_laws.specs.Patterns.{InitMayPass, MayMeet, MayPass, Patt
 use Rattle.cl_contests.specs.declared.patterns.AskedBy.{AskedBy}
 use Rattle.cl_contests.specs.declared.patterns.Pattern.{Pattern}
 use Rattle.cl_contests.specs.declared.patterns.Pattern.TheVariants as pattern
-use Rattle.cl_contests.specs.Kept.{is_any_source, is_pattern, wild_of}
+use Rattle.cl_contests.specs.Kept.{is_any_source, is_pattern, is_poll_of_complete, wild_of}
 
 -- the kept pattern is the wanted one
 abbrev pub is_wanted : Pattern → Pattern → Bool
@@ -24,6 +24,7 @@ is_wanted pattern.PollOfCuts kept = is_pattern kept poll_of_cuts
 is_wanted (pattern.BySender link) kept = is_pattern kept (by_sender link)
 is_wanted (pattern.ByReceiver link) kept = is_pattern kept (by_receiver link)
 is_wanted (pattern.AnySource comm) kept = is_any_source kept comm
+is_wanted pattern.PollOfComplete kept = is_poll_of_complete kept
 
 -- it is one of the rank's patterns
 abbrev pub has_pattern : List AskedBy → ℕ → Pattern → Bool
@@ -57,4 +58,4 @@ pub record IsWaitKept (a : AskedBy) : Type 0 where
   pub claims : is_pattern a.pattern claim ≡ false
   pub polls : is_pattern a.pattern poll ≡ false
   pub polls_of_sends : is_pattern a.pattern poll_of_sends ≡ false
-  pub synchronous : (dest comm : ℕ) → is_pattern a.pattern (send true dest comm) ≡ false
+  pub polls_of_complete : is_poll_of_complete a.pattern ≡ false

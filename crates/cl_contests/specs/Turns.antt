@@ -21,11 +21,12 @@ use Rattle.cl_moves.specs.Sure.{IsReadyKind}
 use Rattle.cl_moves.specs.declared.standing.Standing.{Standing}
 use Rattle.cl_rests.specs.Telling.{IsRestAt}
 use Rattle.cl_reduction_laws.specs.Clusters.{Search, awake_cluster}
+use Rattle.cl_reduction_laws.specs.Complete.{PollWithin}
 use Rattle.cl_reduction_laws.specs.Patterns.{InitMayPass, IsAllowed, IsInitialisation, MayMeet, MayPass, Pattern, pattern_of}
 use Rattle.cl_reduction_laws.specs.Settled.{AllWithin}
 use Rattle.cl_contests.specs.declared.patterns.AskedBy.{AskedBy}
 use Rattle.cl_contests.specs.Going.{IsFirstHart, LeadsOn, SettlesFrom}
-use Rattle.cl_contests.specs.Kept.{search_of, wild_of}
+use Rattle.cl_contests.specs.Kept.{wild_of}
 
 -- the rank doesn't rest, if standard sends may wait for their receives
 abbrev pub MayGoFirst : Bool → Standing → ℕ → Type 0
@@ -43,8 +44,8 @@ abbrev pub IsBusyIfSome : Ask → Option Bare → Type 0
 IsBusyIfSome ask None = Unit {0}
 IsBusyIfSome ask (Some kind) = IsBusyKind ask (kind_of_bare kind)
 
--- the next turn of a rank that may go first, which needs only the rank and goes on
-pub record IsBusyTurn (may_wait : Bool) (standing : Standing) (e : Step) : Type 0 where
+-- the next turn of a rank that may go first, which needs only the rank and goes on, and polls no send that it may not poll
+pub record IsBusyTurn (search : Search) (standing : Standing) (e : Step) : Type 0 where
   pub own : RankState
   pub there : slice_get standing.cluster.ranks.items e.rank ≡ Some own
   pub hart_is : e.hart ≡ 0
@@ -52,17 +53,16 @@ pub record IsBusyTurn (may_wait : Bool) (standing : Standing) (e : Step) : Type 
   pub stamp_is : e.stamp ≡ own.clock + 1
   pub low : e.stamp < 2 ^ 62
   pub busy : IsBusyKind (asked (rank_of own) 0) e.kind
-  pub anyway : MayGoFirst may_wait standing e.rank
+  pub polls : PollWithin search.polls_of_complete e.rank (rank_of own) 0
+  pub anyway : MayGoFirst search.may_wait standing e.rank
 
-abbrev pub IsBusyNext : Bool → Standing → Option Step → Type 0
-IsBusyNext may_wait standing None = Unit {0}
-IsBusyNext may_wait standing (Some e) = IsBusyTurn may_wait standing e
+abbrev pub IsBusyNext : Search → Standing → Option Step → Type 0
+IsBusyNext search standing None = Unit {0}
+IsBusyNext search standing (Some e) = IsBusyTurn search standing e
 
--- by each order that names the first hart alone, and in each search where sends may wait or don't
-abbrev pub GoesAlone : Bool → Standing → Standing → Type 0
-GoesAlone may_wait old new =
-    (order : List ℕ) (kept : List AskedBy) → IsFirstHart order
-    → LeadsOn order old new (SettlesFrom (search_of may_wait kept))
+-- by each order that names the first hart alone
+abbrev pub GoesAlone : Search → Standing → Standing → Type 0
+GoesAlone search old new = (order : List ℕ) → IsFirstHart order → LeadsOn order old new (SettlesFrom search)
 
 -- by each order that names the first hart alone, the rank goes round by itself for ever
 abbrev pub GoesRoundAlone : Standing → Standing → ℕ → Type 0
@@ -73,7 +73,9 @@ GoesRoundAlone old new r = (order : List ℕ) → IsFirstHart order → GoesRoun
 -- the rank's first hart asks within the patterns
 abbrev pub AsksWithin : Search → ℕ → RankState → Type 0
 AsksWithin search r own =
-    IsAllowed search.patterns r (pattern_of (rank_of own) 0) × AskWithin search.wild r (asked (rank_of own) 0)
+    IsAllowed search.patterns r (pattern_of (rank_of own) 0)
+    × AskWithin search.wild r (asked (rank_of own) 0)
+    × PollWithin search.polls_of_complete r (rank_of own) 0
 
 -- whichever node the standing is, each rank asks within the patterns there
 abbrev pub TellsWithin : Search → Standing → Bool → Type 0

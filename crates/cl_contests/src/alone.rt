@@ -1,9 +1,11 @@
 //! Turns that need only their rank, and go on.
 
 ghost use Rattle.std.specs.Prelude.{◌≡◌, IfOk, OnOk};
+ghost use Rattle.cl_contests.specs.Kept.{search_of};
 ghost use Rattle.cl_contests.specs.Lone.{IsTurnIfSome};
 ghost use Rattle.cl_contests.specs.Turns.{GoesAlone, GoesRoundAlone, IsBusyIfSome, IsBusyNext};
 
+use crate::complete::polls_complete;
 use crate::patterns::Patterns;
 use cl_journal::CLOCK_MAX;
 use cl_machine::Step;
@@ -24,10 +26,10 @@ fn busy_kind(ask: &Ask) -> Option<Bare>
     }
 }
 
-/// The next turn of a rank that may go first, if it needs only the rank and goes on.
+/// The next turn of a rank that may go first, if it needs only the rank and goes on, and polls no send that it may not poll.
 fn next_busy(standing: &Standing, rank: u8, patterns: &Patterns) -> Result<Option<Step>, MoveFault>
     ensures whose { IfOk result (IsTurnIfSome rank) }
-    ensures busy { IfOk result (IsBusyNext patterns.now.may_wait standing.now) }
+    ensures busy { IfOk result (IsBusyNext (search_of patterns.now.may_wait patterns.now.kept.items) standing.now) }
 {
     let place = usize::from(rank);
     if place >= standing.cluster.ranks.len() {
@@ -37,7 +39,11 @@ fn next_busy(standing: &Standing, rank: u8, patterns: &Patterns) -> Result<Optio
     if own.harts.len() == 0 || patterns.hold_back(standing, rank) {
         return Ok(None);
     }
-    let Some(kind) = busy_kind(&own.ask(0)?) else {
+    let doing = own.next(0);
+    if !patterns.allow_poll_of_complete(rank, polls_complete(own, &doing)) {
+        return Ok(None);
+    }
+    let Some(kind) = busy_kind(&own.ask_next(0, &doing)?) else {
         return Ok(None);
     };
     if own.clock >= CLOCK_MAX {
@@ -85,7 +91,8 @@ fn go_alone(
     most: u64,
     patterns: &Patterns,
 ) -> Result<Alone, MoveFault>
-    ensures alone { OnOk result (GoesAlone patterns.now.may_wait standing.old standing.new) }
+    ensures alone { OnOk result (GoesAlone (search_of patterns.now.may_wait patterns.now.kept.items) standing.old
+        standing.new) }
     ensures round { IfOk result (λ how. how ≡ Alone.Round → GoesRoundAlone standing.old standing.new rank) }
 {
     let mut watch = Watch::new();
@@ -114,7 +121,8 @@ fn go_unless_spent(
     patterns: &Patterns,
     spent: &mut Spent,
 ) -> Result<bool, MoveFault>
-    ensures { OnOk result (GoesAlone patterns.now.may_wait standing.old standing.new) }
+    ensures { OnOk result (GoesAlone (search_of patterns.now.may_wait patterns.now.kept.items) standing.old
+        standing.new) }
 {
     if spent.has(rank) {
         return Ok(false);
@@ -142,7 +150,8 @@ fn each_alone(
     patterns: &Patterns,
     spent: &mut Spent,
 ) -> Result<Option<u8>, MoveFault>
-    ensures { OnOk result (GoesAlone patterns.now.may_wait standing.old standing.new) }
+    ensures { OnOk result (GoesAlone (search_of patterns.now.may_wait patterns.now.kept.items) standing.old
+        standing.new) }
 {
     let mut long = None;
     for rank in 0..RANKS_MAX {
@@ -165,7 +174,8 @@ pub(crate) fn all_alone(
     patterns: &Patterns,
     spent: &mut Spent,
 ) -> Result<Option<u8>, MoveFault>
-    ensures { OnOk result (GoesAlone patterns.now.may_wait standing.old standing.new) }
+    ensures { OnOk result (GoesAlone (search_of patterns.now.may_wait patterns.now.kept.items) standing.old
+        standing.new) }
 {
     let Some(rank) = whose else {
         return each_alone(alloc, standing, most, patterns, spent);

@@ -9,6 +9,7 @@ ghost use Rattle.cl_contests.specs.Turns.{TellsWithin};
 
 use crate::alone::{Spent, all_alone};
 use crate::asking::{is_found_turn, is_look, is_made_anew, is_ready_turn};
+use crate::complete::polls_complete;
 use crate::lone::next_lone;
 use crate::patterns::Patterns;
 use crate::polls::poll_all;
@@ -46,12 +47,14 @@ fn asks_within(
     }
     let doing = own.next(0);
     let waits = is_made_anew(&doing);
+    let polls = polls_complete(own, &doing);
     let ask = own.ask_next(0, &doing)?;
-    if patterns.allow(rank, waits, &ask) {
-        return Ok(true);
+    if !patterns.allow(rank, waits, &ask) || !patterns.allow_poll_of_complete(rank, polls) {
+        missing.add(rank, waits, &ask)?;
+        missing.add_poll_of_complete(rank, polls)?;
+        return Ok(false);
     }
-    missing.add(rank, waits, &ask)?;
-    Ok(false)
+    Ok(true)
 }
 
 /// Whether each rank asks within the patterns. What they ask beside them is added to `missing`.

@@ -16,6 +16,7 @@ ghost use Rattle.cl_contests.specs.Fits.{IsFitRank};
 ghost use Rattle.cl_contests.specs.Going.{TellsFit};
 
 use crate::asking::is_made_anew;
+use crate::complete::polls_complete;
 use crate::patterns::Patterns;
 use crate::starts::waits_within;
 use cl_moves::{MoveFault, Standing, is_in_vain};
@@ -123,6 +124,9 @@ fn is_fit_rank(
     let ask = own.ask_next(0, &doing)?;
     let waits = is_made_anew(&doing);
     if !patterns.allow(rank, waits, &ask) || !stands_at_call(own) {
+        return Ok(false);
+    }
+    if !patterns.allow_poll_of_complete(rank, polls_complete(own, &doing)) {
         return Ok(false);
     }
     Ok(rests_if(standing, rank, own, waits, &ask))

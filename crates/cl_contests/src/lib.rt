@@ -6,6 +6,7 @@
 
 mod alone;
 mod asking;
+mod complete;
 mod first;
 mod fit;
 mod lone;

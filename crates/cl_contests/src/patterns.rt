@@ -11,7 +11,7 @@ ghost use Rattle.cl_reduction_laws.specs.Patterns.{by_receiver, by_sender, patte
 ghost use Rattle.cl_reduction_laws.specs.Patterns.{poll_of_sends, wait};
 ghost use Rattle.cl_reduction_laws.specs.Settled.{AreOnSides};
 ghost use Rattle.cl_reduction_laws.specs.Clusters.{IsAtBox};
-ghost use Rattle.cl_contests.specs.Kept.{is_same_bool, patterns_of, search_of, wild_of};
+ghost use Rattle.cl_contests.specs.Kept.{is_same_bool, patterns_of, polls_of, search_of, wild_of};
 ghost use Rattle.cl_contests.specs.Passing.{InitMayPassKept, IsOnSide, IsWaitKept, Keeps, MayMeetKept, MayPassKept, has_pattern};
 ghost use Rattle.cl_contests.specs.Passing.{is_wanted as is_wanted_of};
 ghost use Rattle.cl_contests.specs.Turns.{IsUncontested, MayGoFirst};
@@ -45,6 +45,8 @@ pub enum Pattern {
     AnySource {
         comm: u8,
     },
+    /// A poll of a synchronous send that was complete as it was made. It asks nobody, so nobody contests it.
+    PollOfComplete,
     /// PSEND_INIT where it sends, else PRECV_INIT: in this communicator, with this peer and tag, of so many bytes in all.
     Initialisation {
         sends: bool,
@@ -96,6 +98,7 @@ fn is_wanted(wanted: Pattern, kept: Pattern) -> bool
         (Pattern::PollOfSends, Pattern::PollOfSends) => true,
         (Pattern::Claim, Pattern::Claim) => true,
         (Pattern::AnySource { comm: other }, Pattern::AnySource { comm }) => comm == other,
+        (Pattern::PollOfComplete, Pattern::PollOfComplete) => true,
         (
             Pattern::Initialisation {
                 sends: its,
@@ -251,10 +254,11 @@ fn is_wait(asked: &AskedBy) -> bool
     ensures { IsTrue result → IsWaitKept asked.now }
 {
     match asked.pattern {
-        Pattern::Send { sync, .. } => !sync,
-        Pattern::Receive | Pattern::Initialisation { .. } | Pattern::PollOfCuts => true,
+        Pattern::Send { .. } | Pattern::Receive => true,
+        Pattern::Initialisation { .. } | Pattern::PollOfCuts => true,
         Pattern::BySender { .. } | Pattern::ByReceiver { .. } => true,
-        Pattern::Poll | Pattern::PollOfSends | Pattern::Claim | Pattern::AnySource { .. } => false,
+        Pattern::Poll | Pattern::PollOfSends | Pattern::PollOfComplete => false,
+        Pattern::Claim | Pattern::AnySource { .. } => false,
     }
 }
 
@@ -349,6 +353,13 @@ impl Patterns {
             Some(_) => true,
             None => self.has(rank, Pattern::AnySource { comm }),
         }
+    }
+
+    /// Whether the rank may poll a synchronous send that was complete as it was made, if it does.
+    pub(crate) fn allow_poll_of_complete(&self, rank: u8, polls: bool) -> bool
+        ensures { IsTrue result → IsTrue polls → polls_of self.now.kept.items rank ≡ true }
+    {
+        !polls || self.has(rank, Pattern::PollOfComplete)
     }
 
     /// Whether this call of the hub is among the rank's patterns.
@@ -452,7 +463,7 @@ impl Patterns {
             Pattern::Poll => brings_nothing(request, other.rank, false),
             Pattern::PollOfSends => brings_nothing(request, other.rank, true),
             Pattern::Claim => false,
-            Pattern::AnySource { .. } => true,
+            Pattern::AnySource { .. } | Pattern::PollOfComplete => true,
             Pattern::Initialisation { .. } | Pattern::PollOfCuts => true,
             Pattern::BySender { .. } | Pattern::ByReceiver { .. } => true,
         }
@@ -525,8 +536,8 @@ impl Patterns {
         true
     }
 
-    /// Whether ranks only wait for named ranks: none asks for any source, claims a message, goes on where nothing is there, or
-    /// sends synchronously. Then it doesn't matter how long messages take.
+    /// Whether ranks only wait for named ranks: none asks for any source, claims a message, or goes on where nothing is there.
+    /// Then it doesn't matter how long messages take.
     pub fn only_wait(&self) -> bool
         ensures { IsTrue result → OnlyWaits (search_of self.now.may_wait self.now.kept.items) }
     {
@@ -620,6 +631,16 @@ impl Patterns {
             Some(_) => Ok(()),
             None => self.keep(rank, Pattern::AnySource { comm }),
         }
+    }
+
+    /// Adds that the rank polls a synchronous send that was complete as it was made, if it does.
+    pub(crate) fn add_poll_of_complete(&mut self, rank: u8, polls: bool) -> Result<(), AllocError>
+        ensures { OnOk result (Keeps self.old.kept.items self.new.kept.items) }
+    {
+        if !polls {
+            return Ok(());
+        }
+        self.keep(rank, Pattern::PollOfComplete)
     }
 
     fn add_request(&mut self, rank: u8, waits: bool, request: &Request) -> Result<bool, AllocError>

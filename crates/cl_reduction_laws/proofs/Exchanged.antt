@@ -26,9 +26,11 @@ use Rattle.cl_first_laws.proofs.Below.{likeness_law}
 use Rattle.cl_first_laws.specs.Laws.{IsCalm, IsExchanged as AreExchanged, Polls, Reordered, Turn, at_once as together, r_polls as mine_polls, s_polls as theirs_polls}
 use Rattle.cl_first_laws.proofs.Exchanges.{both, exchange_law, next, plain, turn_of}
 use Rattle.cl_schedule_laws.specs.Machines.{IsExchanged, IsReordered, Takes, at_once, r_polls, s_polls}
+use Rattle.cl_reduction_laws.specs.Complete.{PollWithin}
 use Rattle.cl_reduction_laws.specs.Patterns.{IsAllowed, pattern_of, pattern_of_ask}
 use Rattle.cl_reduction_laws.specs.Clusters.{IsGood, IsWithin, Search, State, awake_cluster, cluster_machine, posts_of, weight_in, weight_of}
 use Rattle.cl_reduction_laws.proofs.Awake.{clusters_awake}
+use Rattle.cl_reduction_laws.proofs.Complete.{waits_within}
 use Rattle.cl_reduction_laws.proofs.Naming.{below_if_right}
 use Rattle.cl_reduction_laws.proofs.Good.{IsMade, IsOnly, IsOwn, at_start, goes_of, gone, good_after, grows_by, plans_of}
 use Rattle.cl_reduction_laws.proofs.Machine.{ask_itself, same_alike, same_itself, same_turns}
@@ -281,12 +283,14 @@ module _ (search : Search) (r s : ℕ) (a b c : State search) (apart : s ≢ r) 
       polls_within : (t : ℕ) (k : Cluster) (f : Polls t (search.harts t) k) → IsWithin search k t
       polls_within t k f z at =
           let same : f.rank ≡ z = same_Some f.rank z (sym f.there ∙ at) in
+          let on = polls_on f.rank (search.harts t) f.post f.waits in
           subst (λ (w : Rank). IsAllowed search.patterns t (pattern_of w (search.harts t))
-          × AskWithin search.wild t (asked w (search.harts t))) same (
-            subst (λ w. IsAllowed search.patterns t (pattern_of_ask w (asked f.rank (search.harts t))))
-                (sym (polls_on f.rank (search.harts t) f.post f.waits))
+          × AskWithin search.wild t (asked w (search.harts t))
+          × PollWithin search.polls_of_complete t w (search.harts t)) same (
+            subst (λ w. IsAllowed search.patterns t (pattern_of_ask w (asked f.rank (search.harts t)))) (sym on)
                 (subst (λ u. IsAllowed search.patterns t (pattern_of_ask true u)) (sym f.asks) tt),
             subst (AskWithin search.wild t) (sym f.asks) tt,
+            waits_within search.polls_of_complete t f.rank (search.harts t) on,
           )
 
       polls_light : (t : ℕ) (k : Cluster) (f : Polls t (search.harts t) k)

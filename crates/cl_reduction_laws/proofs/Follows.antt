@@ -31,8 +31,10 @@ use Rattle.cl_first_laws.specs.Below.{AreAlike, AskOfLive, AskWithin}
 use Rattle.cl_first_laws.proofs.Below.{likeness_law}
 use Rattle.cl_first_laws.proofs.Below.{asks_of_named, go_alike_law}
 use Rattle.cl_first_laws.specs.Laws.{Turn}
+use Rattle.cl_reduction_laws.specs.Complete.{polls_complete, polls_complete_in}
 use Rattle.cl_reduction_laws.specs.Patterns.{IsAllowed, pattern_of, pattern_of_ask, pattern_of_request}
 use Rattle.cl_reduction_laws.specs.Clusters.{IsWithin, Search, State, awake_cluster, may_be_awaited, weight_in, weight_of}
+use Rattle.cl_reduction_laws.proofs.Complete.{polls_alike}
 use Rattle.cl_reduction_laws.proofs.Naming.{asks_of_live, awaited_inside}
 use Rattle.cl_reduction_laws.proofs.Awake.{clusters_awake, from_mapped, mapped}
 use Rattle.cl_reduction_laws.proofs.Good.{good_after}
@@ -121,6 +123,12 @@ module _ (names : Renaming) (hart : ℕ) (x y : Rank) (sx : StandsAtCall x hart)
       ∙ ap (pattern_of_ask (waits_on (doing x.site (part_of x hart)))) asks_too
       ∙ pattern_same names (waits_on (doing x.site (part_of x hart))) (asked x hart)
 
+  pub polls_too : polls_complete y hart ≡ polls_complete x hart
+  polls_too =
+      ap (polls_complete_in y.memory y.requests) (sym (does_awake y hart sy))
+      ∙ polls_alike names hart (awake x) (awake y) alike
+      ∙ ap (polls_complete_in x.memory x.requests) (does_awake x hart sx)
+
   pub inside_too : hart < length x.harts → hart < length y.harts
   inside_too inside =
       subst (λ n. hart < n)
@@ -184,6 +192,7 @@ module _ (search : Search) where
         subst (IsAllowed search.patterns r) (sym (pattern_too k.0 (search.harts r) f.0 y sx sy f.2)) old.0,
         subst (AskWithin search.wild r) (sym (asks_too k.0 (search.harts r) f.0 y sx sy f.2))
             (within_same search.wild k.0 r (asked f.0 (search.harts r)) old.1),
+        λ polls. old.2 (sym (polls_too k.0 (search.harts r) f.0 y sx sy f.2) ∙ polls),
       )
 
   pub weight_too : (r : ℕ) (a b : State search) → AreAlike search.wild (awake_cluster a.cluster) (awake_cluster b.cluster)

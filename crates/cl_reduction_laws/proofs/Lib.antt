@@ -7,6 +7,7 @@ pub mod Transfers
 pub mod Naming
 pub mod Good
 pub mod Machine
+pub mod Complete
 pub mod Follows
 pub mod First
 pub mod Exchanged

@@ -27,6 +27,7 @@ use Rattle.cl_rest_laws.specs.Rests.{rests}
 use Rattle.cl_first_laws.specs.Below.{AreAlike, AskWithin}
 use Rattle.cl_first_laws.specs.Laws.{Turn}
 use Rattle.cl_schedule_laws.specs.Machines.{Machine, Ranks}
+use Rattle.cl_reduction_laws.specs.Complete.{PollWithin, PollsOfComplete}
 use Rattle.cl_reduction_laws.specs.Patterns.{InitMayPass, IsAllowed, IsInitialisation, MayMeet, MayPass, Pattern, Patterns, pattern_of}
 
 -- ---- what a search is told
@@ -34,6 +35,8 @@ use Rattle.cl_reduction_laws.specs.Patterns.{InitMayPass, IsAllowed, IsInitialis
 pub record Search : Type 0 where
   -- whether a rank may ask in a communicator for a message of any source
   pub wild : Wild
+  -- whether it may poll a synchronous send that was complete as it was made. Nobody contests that, for it asks nobody
+  pub polls_of_complete : PollsOfComplete
   pub patterns : Patterns
   -- the one hart of each rank that takes turns
   pub harts : ℕ → ℕ
@@ -77,12 +80,14 @@ awake_cluster c = record { ranks = map awake c.ranks; journal = c.journal; boxes
 
 -- ---- turns
 
--- what the rank asks is one of its patterns, and for any source only where it may
+-- what the rank asks is one of its patterns, and it asks for any source, and polls what was complete as it was made, only where
+-- it may
 abbrev pub IsWithin : Search → Cluster → ℕ → Type 0
 IsWithin search c r =
     (rank : Rank) → slice_get c.ranks r ≡ Some rank
     → IsAllowed search.patterns r (pattern_of rank (search.harts r))
     × AskWithin search.wild r (asked rank (search.harts r))
+    × PollWithin search.polls_of_complete r rank (search.harts r)
 
 -- 0 for the poll of a RECV or SSEND, whose post was made
 abbrev pub weight_in : Mode → ℕ

@@ -1,5 +1,5 @@
 -- Polls of synchronous sends that were complete as they were made: they ask nobody.
-use Rattle.std.specs.Prelude.{ℕ, ◌&&◌, Bool, true, false, Option}
+use Rattle.std.specs.Prelude.{ℕ, ◌&&◌, ◌≡◌, Bool, true, false, Option}
 use Rattle.std.specs.List.{list_any}
 use Rattle.std.specs.Option.{option_map_or}
 use Rattle.rv_memory.specs.Memory.{Memory}
@@ -44,3 +44,11 @@ polls_complete_in memory table _ = false
 abbrev pub polls_complete : Rank → ℕ → Bool
 polls_complete rank hart =
     polls_complete_in rank.memory rank.requests (doing rank.site (part_of rank hart))
+
+-- whether a rank may make one
+abbrev pub PollsOfComplete : Type 0
+PollsOfComplete = ℕ → Bool
+
+-- rank r may, if its hart's next turn is one
+abbrev pub PollWithin : PollsOfComplete → ℕ → Rank → ℕ → Type 0
+PollWithin may r rank hart = polls_complete rank hart ≡ true → may r ≡ true

@@ -19,7 +19,7 @@ use Rattle.mp_way_laws.specs.Runs.{NamesSource}
 use Rattle.mp_way_laws.specs.Answers.{IsSameHub, IsToldAs, behind, behind_at_once, in_vain, reply_at_once, reply_on_way, same, synchronous, waits}
 use Rattle.cl_reduction_laws.specs.Clusters.{Search}
 use Rattle.cl_reduction_laws.specs.Patterns.{IsAllowed, claim, pattern_of_request}
-use Rattle.cl_way_laws.specs.Waiting.{OnlyWaits}
+use Rattle.cl_contests.specs.Waiting.{OnlyWaits}
 use Rattle.cl_way_laws.proofs.SameHubs.{same_hub_itself}
 
 -- a question how a transfer is cut

@@ -45,12 +45,14 @@ use Rattle.cl_first_laws.specs.Below.{TellsOnly}
 use Rattle.cl_first_laws.proofs.Exchanges.{Called, call_of, next, turn_of}
 use Rattle.cl_reduction_laws.specs.Below.{AskWithin, Turn}
 use Rattle.cl_reduction_laws.specs.Clusters.{IsGood, IsReadyPoll, IsWithin, NamesRightly, Search, State, may_be_awaited, weight_in}
+use Rattle.cl_reduction_laws.specs.Complete.{PollWithin}
 use Rattle.cl_reduction_laws.specs.Patterns.{IsAllowed, pattern_of, pattern_of_ask, pattern_of_request}
+use Rattle.cl_reduction_laws.proofs.Complete.{waits_within}
 use Rattle.cl_reduction_laws.proofs.First.{polls_on}
 use Rattle.cl_reduction_laws.proofs.Good.{IsListed, IsTold, good_after, grows_after, tells_named, waits_after}
 use Rattle.cl_reduction_laws.proofs.Naming.{rightly_more, rightly_told}
 use Rattle.cl_contest_laws.proofs.Good.{good_alike}
-use Rattle.cl_way_laws.specs.Waiting.{OnlyWaits}
+use Rattle.cl_contests.specs.Waiting.{OnlyWaits}
 use Rattle.cl_way_laws.proofs.Asking.{GoesAs, goes_as, names_source, not_posted}
 use Rattle.cl_way_laws.proofs.Complete.{asked_still, complete_still}
 use Rattle.cl_way_laws.proofs.LaterSend.{later as send_later, polls as send_polls, waits as send_waits}
@@ -255,12 +257,14 @@ module _ (search : Search) (image : ImageParts) (waits_only : OnlyWaits search)
         ready = subst (IsReady (request.Collect n)) (sym (reply_is d.journal r (request.Collect n) ∙ gets)) tt;
         within = λ z at.
             let same = same_Some poster z (sym poster_there ∙ at) in
-            subst (λ z. IsAllowed search.patterns r (pattern_of z hart) × AskWithin search.wild r (asked z hart)) same (
+            subst (λ z. IsAllowed search.patterns r (pattern_of z hart) × AskWithin search.wild r (asked z hart)
+            × PollWithin search.polls_of_complete r z hart) same (
               subst (λ k. IsAllowed search.patterns r
                   (pattern_of_ask (waits_on (doing poster.site (part_of poster hart))) k)) (sym asks_then)
                   (subst (λ b. IsAllowed search.patterns r (pattern_of_request b (request.Collect n)))
                   (sym (polls_on poster hart n mode_is)) tt),
               subst (AskWithin search.wild r) (sym asks_then) tt,
+              waits_within search.polls_of_complete r poster hart (polls_on poster hart n mode_is),
             );
       }
 
@@ -418,12 +422,14 @@ module _ (search : Search) (image : ImageParts) (waits_only : OnlyWaits search)
             (sym (reply_is d.journal r (request.Finished number) ∙ complete_there)) tt;
         within = λ z at.
             let same = same_Some sender z (sym sender_there ∙ at) in
-            subst (λ z. IsAllowed search.patterns r (pattern_of z hart) × AskWithin search.wild r (asked z hart)) same (
+            subst (λ z. IsAllowed search.patterns r (pattern_of z hart) × AskWithin search.wild r (asked z hart)
+            × PollWithin search.polls_of_complete r z hart) same (
               subst (λ k. IsAllowed search.patterns r
                   (pattern_of_ask (waits_on (doing sender.site (part_of sender hart))) k)) (sym sender_asks)
                   (subst (λ b. IsAllowed search.patterns r (pattern_of_request b (request.Finished number)))
                   (sym (polls_on sender hart number sender_waits)) tt),
               subst (AskWithin search.wild r) (sym sender_asks) tt,
+              waits_within search.polls_of_complete r sender hart (polls_on sender hart number sender_waits),
             );
       }
 

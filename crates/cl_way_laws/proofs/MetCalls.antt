@@ -24,7 +24,7 @@ use Rattle.cl_reduction_laws.specs.Clusters.{IsWithin, Search, State, cluster_ma
 use Rattle.cl_delay_laws.specs.Networks.{IsTurn, in_vain, same, waits}
 use Rattle.cl_way_laws.specs.Clusters.{IsArrived, WayCluster, called_on_way}
 use Rattle.cl_way_laws.specs.Met.{is_met, met}
-use Rattle.cl_way_laws.specs.Waiting.{OnlyWaits}
+use Rattle.cl_contests.specs.Waiting.{OnlyWaits}
 use Rattle.cl_way_laws.proofs.Asking.{GoesAs, at_once, completes, posts, stays}
 use Rattle.cl_way_laws.proofs.AtHub.{IsLeft, Leaves, after, completes_leaves, goes, leads, named, posts_leaves, ready, same_leaves, same_near, send_leads, send_ready, turn, vain_leaves, vain_so}
 use Rattle.cl_way_laws.proofs.MetAsks.{DoesSame, asks_met, doing_met}

@@ -36,7 +36,7 @@ use Rattle.cl_reduction_laws.specs.Complete.{polls_complete, polls_complete_in}
 use Rattle.cl_reduction_laws.proofs.Awake.{map_set, mapped}
 use Rattle.cl_reduction_laws.proofs.Naming.{below_if_right}
 use Rattle.cl_way_laws.specs.Met.{is_met, met, met_by, met_table}
-use Rattle.cl_way_laws.specs.Waiting.{OnlyWaits}
+use Rattle.cl_contests.specs.Waiting.{OnlyWaits}
 use Rattle.cl_way_laws.proofs.Before.{table_before}
 use Rattle.cl_way_laws.proofs.LaterSend.{posted_is}
 use Rattle.cl_way_laws.proofs.MetAsks.{DoesSame, doing_met}
@@ -103,7 +103,11 @@ pub same_within : (search : Search) → OnlyWaits search → (c : Cluster) (r : 
     ⊎ Gathers (is_met lines x.site.number) x.memory x.requests (doing x.site (part_of x (search.harts r))))
 same_within search waits_only c r within lines x here =
     same_or_waits (is_met lines x.site.number) x (search.harts r)
-    (waits_only.polls_of_complete c r within (met lines x) here)
+    (never (waits_only.polls_of_complete r) (polls_complete (met lines x) (search.harts r)) (within (met lines x) here).2)
+  where
+    never : search.polls_of_complete r ≡ false → (b : Bool) → (b ≡ true → search.polls_of_complete r ≡ true) → b ≡ false
+    never none false may = refl
+    never none true may = (let is = may refl in absurd (cc))
 
 tells_it : (site : Site) (n : ℕ) (x : Reply) → ((m : ℕ) (b : Bool) → x ≡ reply.Posted m b → m ≡ n)
     → Tells n site (answer.Reply x)

@@ -33,7 +33,7 @@ use Rattle.cl_delay_laws.specs.Networks.{IsNetwork, IsTurn, Network, same}
 use Rattle.cl_contest_laws.proofs.Homes.{AreHome, IsHome, home_told}
 use Rattle.cl_way_laws.specs.Clusters.{IsArrived, IsElsewhere, WayCluster, WayTurn, arrived_at, at_hub, called_on_way, elsewhere, with_journal}
 use Rattle.cl_way_laws.specs.Met.{is_met, met}
-use Rattle.cl_way_laws.specs.Waiting.{OnlyWaits}
+use Rattle.cl_contests.specs.Waiting.{OnlyWaits}
 use Rattle.cl_way_laws.proofs.Elsewhere.{IsNoReply, MovesToo, asks_elsewhere, moved, moves_too}
 use Rattle.cl_way_laws.proofs.MetAsks.{DoesSame, asks_met}
 use Rattle.cl_way_laws.proofs.MetCalls.{call_behind, call_goes, call_named}

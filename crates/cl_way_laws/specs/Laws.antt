@@ -13,7 +13,7 @@ use Rattle.cl_reduction_laws.specs.Settled.{IsSettled}
 use Rattle.cl_contest_laws.specs.Laws.{HasAlikeEnd, HasNeed}
 use Rattle.cl_contest_laws.specs.Lists.{IsClosedByContest, IsOneOf, StartsWell}
 use Rattle.cl_way_laws.specs.Clusters.{IsArrived, IsWayEnd, IsWayRun, WayCluster, WayEvent, way_loaded}
-use Rattle.cl_way_laws.specs.Waiting.{OnlyWaits}
+use Rattle.cl_contests.specs.Waiting.{OnlyWaits}
 
 abbrev pub loaded_node : ImageParts → Node
 loaded_node image = record { cluster = loaded_cluster image; had = none_had }

@@ -1,5 +1,4 @@
 pub mod Met
-pub mod Waiting
 pub mod Clusters
 pub mod Laws
 pub mod Rows
