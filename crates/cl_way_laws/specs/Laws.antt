@@ -27,7 +27,7 @@ pub record IsSearched (search : Search) (plans : Plans) (nodes : List Node) (ima
 
 -- ---- runs
 
--- each of these ranks in turn polls its own receive, whose message is there
+-- each of these ranks in turn polls its own RECV, whose message is there, or its own SSEND, whose receive is
 abbrev pub PollsOn : Search → List ℕ → Cluster → Cluster → Type 0
 PollsOn search [] old new = new ≡ old
 PollsOn search (r ∷ rs) old new =

@@ -19,6 +19,7 @@ use Rattle.cl_state.specs.Rank.{Rank}
 
 -- ---- posts
 
+-- a synchronous send of the rank
 abbrev pub is_sync_of : ℕ → Post → Bool
 is_sync_of rank (post.Send s) = s.sync && (s.envelope.source == rank)
 is_sync_of rank (post.Receive a) = false
@@ -29,12 +30,12 @@ abbrev pub is_before : List Line → ℕ → Option ℕ → Bool
 is_before lines place None = false
 is_before lines place (Some other) = nat_lt other place && is_receive (slice_get lines other)
 
+-- it is a synchronous send of the rank with such a partner
 abbrev pub is_met_line : List Line → ℕ → ℕ → Option Line → Bool
 is_met_line lines rank place None = false
 is_met_line lines rank place (Some line) = is_sync_of rank line.post && is_before lines place line.partner
 
--- the post of this number is a synchronous send of the rank, and its receive was posted before it. 0 is no post's
--- number
+-- the post of this number is a synchronous send of the rank, and its receive was posted before it. 0 is no post's number
 abbrev pub is_met : List Line → ℕ → ℕ → Bool
 is_met lines rank zero = false
 is_met lines rank (suc place) = is_met_line lines rank place (slice_get lines place)
@@ -59,6 +60,6 @@ met_table is table = map (option_map (met_open is)) table
 abbrev pub met_by : (ℕ → Bool) → Rank → Rank
 met_by is rank = record rank { requests = met_table is rank.requests }
 
--- the rank once the messages of its synchronous sends that have a receive have arrived
+-- the rank, where each of its requests is complete whose synchronous send has a receive that was posted before it
 abbrev pub met : List Line → Rank → Rank
 met lines rank = met_by (is_met lines rank.site.number) rank
