@@ -1,5 +1,5 @@
 -- What a rank asks that only waits for named ranks, and what it is told on the way.
-use Rattle.std.proofs.Common.{◌≡◌, ◌∙◌, ℕ, ◌⊎◌, inl, inr, refl, sym, subst, Bool, true, false, List, Option, Some, None}
+use Rattle.std.proofs.Common.{◌≡◌, ◌∙◌, ℕ, ◌⊎◌, inl, inr, refl, sym, Bool, true, false, List, Option, Some, None}
 use Rattle.std.specs.Prelude.{cond, nat_lt, not}
 use Rattle.mp_types.specs.declared.codes.Code.TheVariants as code
 use Rattle.mp_types.specs.declared.messages.Message.{Message}
@@ -18,7 +18,7 @@ use Rattle.mp_way_laws.specs.Way.{WayView, all_arrived, received}
 use Rattle.mp_way_laws.specs.Runs.{NamesSource}
 use Rattle.mp_way_laws.specs.Answers.{IsSameHub, IsToldAs, behind, behind_at_once, in_vain, reply_at_once, reply_on_way, same, synchronous, waits}
 use Rattle.cl_reduction_laws.specs.Clusters.{Search}
-use Rattle.cl_reduction_laws.specs.Patterns.{IsAllowed, claim, pattern_of_request, send}
+use Rattle.cl_reduction_laws.specs.Patterns.{IsAllowed, claim, pattern_of_request}
 use Rattle.cl_contests.specs.Waiting.{OnlyWaits}
 use Rattle.cl_way_laws.proofs.SameHubs.{same_hub_itself}
 
@@ -59,7 +59,8 @@ begun_now h s (Some peer) e = joins (same_total s peer.setup) e
 -- ---- how calls go
 
 -- how a call goes on the way, with the same once all has arrived: nothing is there yet, and the rank waits; or it is
--- told the same; or it posts the receive of what is on its way
+-- told the same; or it posts the receive of what is on its way; or its synchronous send is complete only once it has
+-- arrived
 pub data GoesAs (w : WayView) (r : ℕ) (on : Bool) (q : Request) : Type 0 where
   stays : on ≡ true → reply_on_way w r q ≡ reply.NotYet → behind w r q ≡ w → GoesAs w r on q
   at_once : reply_on_way w r q ≡ reply_at_once w r q → IsSameHub (all_arrived (behind w r q)) (behind_at_once w r q)
@@ -69,6 +70,11 @@ pub data GoesAs (w : WayView) (r : ℕ) (on : Bool) (q : Request) : Type 0 where
       → reply_at_once w r q ≡ reply.Got m
       → reply_at_once (behind w r q) r (request.Collect (next_number w.hub.board)) ≡ reply.Got m
       → IsSameHub (behind_at_once (behind w r q) r (request.Collect (next_number w.hub.board))) (behind_at_once w r q)
+      → GoesAs w r on q
+  completes : (comm dest tag : ℕ) (bytes : List ℕ) → q ≡ request.Send true comm dest tag bytes
+      → reply_on_way w r q ≡ reply.Posted (next_number w.hub.board) false
+      → reply_at_once w r q ≡ reply.Posted (next_number w.hub.board) true
+      → IsSameHub (all_arrived (behind w r q)) (behind_at_once w r q)
       → GoesAs w r on q
 
 module _ (search : Search) (waits_only : OnlyWaits search) where
@@ -147,14 +153,6 @@ module _ (search : Search) (waits_only : OnlyWaits search) where
   cut_too w r on (request.Cut link) is = cut_at_once w r on link
   cut_too w r on _ is = absurd is
 
-  no_synchronous : (r comm dest tag : ℕ) (bytes : List ℕ) (on : Bool) (q : Request)
-      → q ≡ request.Send true comm dest tag bytes
-      → IsAllowed search.patterns r (pattern_of_request on q) → ⊥
-  no_synchronous r comm dest tag bytes on q is may =
-      let at : search.patterns r (send true dest comm) ≡ true =
-      subst (λ p. IsAllowed search.patterns r (pattern_of_request on p)) is may in
-      let e = sym at ∙ waits_only.synchronous r dest comm in absurd (cc)
-
   pub goes_as : (w : WayView) (r : ℕ) (on : Bool) (q : Request) → IsAllowed search.patterns r (pattern_of_request on q)
       → IsToldAs w r q
       → GoesAs w r on q
@@ -165,5 +163,5 @@ module _ (search : Search) (waits_only : OnlyWaits search) where
   goes_as w r on q may (same reply hub) = at_once reply hub
   goes_as w r on q may (waits comm source tag m is posted got collects hub) =
       posts comm source tag m is posted got collects hub
-  goes_as w r on q may (synchronous comm dest tag bytes is posted got hub) =
-      absurd (no_synchronous r comm dest tag bytes on q is may)
+  goes_as w r on q may (synchronous comm dest tag bytes is posted done hub) =
+      completes comm dest tag bytes is posted done hub

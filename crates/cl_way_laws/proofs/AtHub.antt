@@ -41,27 +41,37 @@ use Rattle.cl_order_laws.proofs.Each.{set_here, set_set}
 use Rattle.cl_order_laws.proofs.SureAlone.{IsLive, has_hart}
 use Rattle.cl_order_laws.proofs.SureHub.{reply_is}
 use Rattle.cl_order_laws.proofs.Walks.{hub_entry}
+use Rattle.cl_first_laws.specs.Below.{TellsOnly}
 use Rattle.cl_first_laws.proofs.Exchanges.{Called, call_of, next, turn_of}
 use Rattle.cl_reduction_laws.specs.Below.{AskWithin, Turn}
-use Rattle.cl_reduction_laws.specs.Clusters.{IsReadyPoll, IsWithin, NamesRightly, Search, State, weight_in}
+use Rattle.cl_reduction_laws.specs.Clusters.{IsGood, IsReadyPoll, IsWithin, NamesRightly, Search, State, may_be_awaited, weight_in}
 use Rattle.cl_reduction_laws.specs.Complete.{PollWithin}
 use Rattle.cl_reduction_laws.specs.Patterns.{IsAllowed, pattern_of, pattern_of_ask, pattern_of_request}
 use Rattle.cl_reduction_laws.proofs.Complete.{waits_within}
 use Rattle.cl_reduction_laws.proofs.First.{polls_on}
-use Rattle.cl_reduction_laws.proofs.Good.{good_after, grows_after, tells_named, waits_after}
+use Rattle.cl_reduction_laws.proofs.Good.{IsListed, IsTold, good_after, grows_after, tells_named, waits_after}
 use Rattle.cl_reduction_laws.proofs.Naming.{rightly_more, rightly_told}
 use Rattle.cl_contest_laws.proofs.Good.{good_alike}
-use Rattle.cl_way_laws.specs.Clusters.{IsArrived, WayCluster, called_on_way}
 use Rattle.cl_contests.specs.Waiting.{OnlyWaits}
-use Rattle.cl_way_laws.proofs.Asking.{GoesAs, at_once, goes_as, names_source, not_posted, posts, stays}
-use Rattle.cl_way_laws.proofs.Near.{AreNear, IsNear, arrived_near, near_alike, told_near, vain_near}
+use Rattle.cl_way_laws.proofs.Asking.{GoesAs, goes_as, names_source, not_posted}
+use Rattle.cl_way_laws.proofs.Complete.{asked_still, complete_still}
+use Rattle.cl_way_laws.proofs.LaterSend.{later as send_later, polls as send_polls, waits as send_waits}
+use Rattle.cl_way_laws.proofs.Near.{AreNear, IsNear, near_alike, told_near, vain_near}
 use Rattle.cl_way_laws.proofs.Received.{posted_as}
 use Rattle.cl_way_laws.proofs.SameHubs.{same_call, same_hub_back, same_hub_is, same_hub_on}
-use Rattle.cl_way_laws.proofs.States.{Behind, WayState, each_in}
+use Rattle.cl_way_laws.proofs.States.{WayState, each_in}
+use Rattle.cl_way_laws.proofs.SyncSends.{IsSsend}
+
+-- a cluster in which all has arrived behind a call, and in which the rank was told this
+pub record IsLeft (c : Cluster) (w : WayView) (r hart : ℕ) (rank : Rank) (q : Request) (stamp : ℕ) (x : Reply)
+    (d : Cluster) : Type 0 where
+  pub ranks : d.ranks ≡ slice_set c.ranks r (told rank hart (answer.Reply x) stamp)
+  pub boxes : d.boxes ≡ c.boxes
+  pub hub : IsSameHub (hub_of d.journal) (all_arrived (behind w r q))
 
 module _ (search : Search) (image : ImageParts) (waits_only : OnlyWaits search)
     (a : WayState search image) (r : ℕ) (rank : Rank) (q : Request) (stamp : ℕ)
-    (there : slice_get a.now.ranks r ≡ Some rank)
+    (here : slice_get a.state.cluster.ranks r ≡ Some rank)
     (asks : asked rank (search.harts r) ≡ Ask.Hub q) (within : IsWithin search a.state.cluster r) where
   abbrev hart : ℕ
   hart = search.harts r
@@ -77,13 +87,6 @@ module _ (search : Search) (image : ImageParts) (waits_only : OnlyWaits search)
 
   abbrev on : Bool
   on = waits_on (doing rank.site (part_of rank hart))
-
-  -- where the call leads on the way
-  abbrev new : WayCluster
-  new = called_on_way a.now r hart rank q stamp
-
-  pub here : slice_get c.ranks r ≡ Some rank
-  here = ap (λ xs. slice_get xs r) a.arrived.ranks ∙ there
 
   may : IsAllowed search.patterns r (pattern_of_request on q)
   may = subst (λ k. IsAllowed search.patterns r (pattern_of_ask on k)) asks (within rank here).0
@@ -121,77 +124,86 @@ module _ (search : Search) (image : ImageParts) (waits_only : OnlyWaits search)
   hub_then = subst (λ k. IsSameHub k (behind_at_once w r q)) (sym called.hubs) (at_hub q).1
 
   abbrev told_so : Reply → ℕ → List Rank
-  told_so x s = slice_set a.now.ranks r (told rank hart (answer.Reply x) s)
+  told_so x s = slice_set c.ranks r (told rank hart (answer.Reply x) s)
 
   ranks_then : then.ranks ≡ told_so (reply_at_once w r q) called.stamp
   ranks_then =
       called.ranks
       ∙ ap (λ x. slice_set c.ranks r (told rank hart (answer.Reply x) called.stamp)) (sym (at_hub q).0)
-      ∙ ap (λ xs. slice_set xs r (told rank hart (answer.Reply (reply_at_once w r q)) called.stamp)) a.arrived.ranks
 
   -- whatever the rank is told, each that is to make its call anew stands at it
   stands_then : (x : Reply) (s : ℕ) (y : Rank) → slice_get (told_so x stamp) s ≡ Some y
       → StandsAtCall y (search.harts s)
   stands_then x =
-      each_in (λ s y. StandsAtCall y (search.harts s)) a.now.ranks r (told rank hart (answer.Reply x) stamp)
+      each_in (λ s y. StandsAtCall y (search.harts s)) c.ranks r (told rank hart (answer.Reply x) stamp)
       ((wake_law.stands) rank hart stamp (answer.Reply x) ((a.state.good).stands r rank here) tt)
-      (λ s y at. (a.state.good).stands s y (ap (λ xs. slice_get xs s) a.arrived.ranks ∙ at))
+      (λ s y at. (a.state.good).stands s y at)
+
+  -- where all has arrived, the rank was told this
+  abbrev Left : Reply → Cluster → Type 0
+  Left x d = IsLeft c w r hart rank q stamp x d
+
+  abbrev pub Leaves : Reply → Type 0
+  Leaves x = (d : Cluster) × Left x d × IsGood search d
 
   -- what is alike is good, too
-  behind_alike : (k : State search) (d : Cluster) → IsArrived new d → IsNear k.cluster d → Behind search new
-  behind_alike k d arrived near = record {
-    cluster = d;
-    arrived = arrived;
-    good = good_alike search k.cluster d (near_alike search.wild k.cluster d (k.good).boxes near) k.good
-        (λ s y at. stands_then (reply_on_way w r q) s y (ap (λ xs. slice_get xs s) (sym arrived.ranks) ∙ at));
-  }
+  leaves_alike : (k : State search) (x : Reply) (d : Cluster) → Left x d → IsNear k.cluster d → Leaves x
+  leaves_alike k x d left near = (
+    d,
+    left,
+    good_alike search k.cluster d (near_alike search.wild k.cluster d (k.good).boxes near) k.good
+        (λ s y at. stands_then x s y (ap (λ xs. slice_get xs s) (sym left.ranks) ∙ at)),
+  )
 
   -- ---- it is told the same
 
-  module _ (reply : reply_on_way w r q ≡ reply_at_once w r q)
-      (hub : IsSameHub (all_arrived (behind w r q)) (behind_at_once w r q)) where
-    pub same_near : (d : Cluster) → IsArrived new d → IsNear then d
+  module _ (hub : IsSameHub (all_arrived (behind w r q)) (behind_at_once w r q)) where
+    pub same_near : (d : Cluster) → Left (reply_at_once w r q) d → IsNear then d
     same_near d two = record {
-      ranks = subst (λ xs. AreNear xs d.ranks) (sym (ranks_then ∙ ap (λ x. told_so x called.stamp) (sym reply)))
-          (subst (AreNear (told_so (reply_on_way w r q) called.stamp)) (sym two.ranks)
-          (told_near a.now.ranks r hart rank (answer.Reply (reply_on_way w r q)) called.stamp stamp));
+      ranks = subst (λ xs. AreNear xs d.ranks) (sym ranks_then)
+          (subst (AreNear (told_so (reply_at_once w r q) called.stamp)) (sym two.ranks)
+          (told_near c.ranks r hart rank (answer.Reply (reply_at_once w r q)) called.stamp stamp));
       hub = same_hub_on (hub_of then.journal) (behind_at_once w r q) (hub_of d.journal) hub_then
           (same_hub_on (behind_at_once w r q) (all_arrived (behind w r q)) (hub_of d.journal)
           (same_hub_back (all_arrived (behind w r q)) (behind_at_once w r q) hub)
           (same_hub_back (hub_of d.journal) (all_arrived (behind w r q)) two.hub));
-      boxes = two.boxes ∙ sym a.arrived.boxes ∙ sym called.boxes;
+      boxes = two.boxes ∙ sym called.boxes;
     }
 
-    same_behind : Behind search new
-    same_behind =
-        let d : Cluster = record { ranks = new.ranks; journal = then.journal; boxes = new.boxes } in
-        let two : IsArrived new d = record {
+    pub same_leaves : Leaves (reply_at_once w r q)
+    same_leaves =
+        let x = reply_at_once w r q in
+        let d : Cluster = record { ranks = told_so x stamp; journal = then.journal; boxes = c.boxes } in
+        let two : Left x d = record {
           ranks = refl;
           boxes = refl;
           hub = same_hub_on (hub_of then.journal) (behind_at_once w r q) (all_arrived (behind w r q)) hub_then
               (same_hub_back (all_arrived (behind w r q)) (behind_at_once w r q) hub);
         } in
-        behind_alike after d two (same_near d two)
+        leaves_alike after x d two (same_near d two)
 
   -- ---- nothing is there yet, and it waits
 
-  module _ (on_is : on ≡ true) (none : reply_on_way w r q ≡ reply.NotYet) (still : behind w r q ≡ w) where
-    pub vain_so : (d : Cluster) → IsArrived new d → IsNear c d
-    vain_so d two =
-        arrived_near a.now new c d a.arrived two
-        (subst (λ x. AreNear a.now.ranks (told_so x stamp)) (sym none)
-        (vain_near a.now.ranks r hart rank q stamp there on_is asks))
-        refl (same_hub_is (all_arrived w) (all_arrived (behind w r q)) (ap all_arrived still))
+  module _ (on_is : on ≡ true) (still : behind w r q ≡ w) where
+    pub vain_so : (d : Cluster) → Left reply.NotYet d → IsNear c d
+    vain_so d two = record {
+      ranks = subst (AreNear c.ranks) (sym two.ranks) (vain_near c.ranks r hart rank q stamp here on_is asks);
+      hub = same_hub_on h (all_arrived w) (hub_of d.journal) a.arrived.hub
+          (same_hub_on (all_arrived w) (all_arrived (behind w r q)) (hub_of d.journal)
+          (same_hub_is (all_arrived w) (all_arrived (behind w r q)) (ap all_arrived still))
+          (same_hub_back (hub_of d.journal) (all_arrived (behind w r q)) two.hub));
+      boxes = two.boxes;
+    }
 
-    vain_behind : Behind search new
-    vain_behind =
-        let d : Cluster = record { ranks = new.ranks; journal = c.journal; boxes = new.boxes } in
-        let two : IsArrived new d = record {
+    pub vain_leaves : Leaves reply.NotYet
+    vain_leaves =
+        let d : Cluster = record { ranks = told_so reply.NotYet stamp; journal = c.journal; boxes = c.boxes } in
+        let two : Left reply.NotYet d = record {
           ranks = refl;
           boxes = refl;
           hub = subst (λ v. IsSameHub h (all_arrived v)) (sym still) a.arrived.hub;
         } in
-        behind_alike a.state d two (vain_so d two)
+        leaves_alike a.state reply.NotYet d two (vain_so d two)
 
   -- ---- it posts the receive of a message on its way, and waits
 
@@ -219,12 +231,12 @@ module _ (search : Search) (image : ImageParts) (waits_only : OnlyWaits search)
     asks_then : asked poster hart ≡ Ask.Hub (request.Collect n)
     asks_then = polls rank hart comm source tag inside asks_now n stamp
 
-    module _ (d : Cluster) (two : IsArrived new d) where
-      ranks_posted : d.ranks ≡ slice_set a.now.ranks r poster
-      ranks_posted = two.ranks ∙ ap (λ x. told_so x stamp) posted
+    module _ (d : Cluster) (two : Left (reply.Posted n false) d) where
+      ranks_posted : d.ranks ≡ slice_set c.ranks r poster
+      ranks_posted = two.ranks
 
       poster_there : slice_get d.ranks r ≡ Some poster
-      poster_there = ap (λ xs. slice_get xs r) ranks_posted ∙ set_here a.now.ranks r poster rank there
+      poster_there = ap (λ xs. slice_get xs r) ranks_posted ∙ set_here c.ranks r poster rank here
 
       at_new : ((outcome (all_arrived (behind w r q)) r (request.Collect n)).0 ≡
           (outcome (hub_of d.journal) r (request.Collect n)).0)
@@ -263,20 +275,20 @@ module _ (search : Search) (image : ImageParts) (waits_only : OnlyWaits search)
           let told_it : last.ranks ≡ told_so (reply.Got m) k.stamp =
           k.ranks ∙ ap (λ x. slice_set d.ranks r (told poster hart (answer.Reply x) k.stamp)) gets
           ∙ ap (λ xs. slice_set xs r (told poster hart (answer.Reply (reply.Got m)) k.stamp)) ranks_posted
-          ∙ set_set a.now.ranks r poster (told poster hart (answer.Reply (reply.Got m)) k.stamp)
-          ∙ ap (slice_set a.now.ranks r) (later rank hart comm source tag inside asks_now n stamp k.stamp m) in
+          ∙ set_set c.ranks r poster (told poster hart (answer.Reply (reply.Got m)) k.stamp)
+          ∙ ap (slice_set c.ranks r) (later rank hart comm source tag inside asks_now n stamp k.stamp m) in
           record {
             ranks = subst (λ xs. AreNear xs then.ranks) (sym told_it)
                 (subst (AreNear (told_so (reply.Got m) k.stamp))
                 (sym (ranks_then ∙ ap (λ x. told_so x called.stamp) got))
-                (told_near a.now.ranks r hart rank (answer.Reply (reply.Got m)) k.stamp called.stamp));
+                (told_near c.ranks r hart rank (answer.Reply (reply.Got m)) k.stamp called.stamp));
             hub = same_hub_on (hub_of last.journal) (behind_at_once (behind w r q) r (request.Collect n))
                 (hub_of then.journal)
                 (subst (λ x. IsSameHub x (behind_at_once (behind w r q) r (request.Collect n))) (sym k.hubs) at_new.1)
                 (same_hub_on (behind_at_once (behind w r q) r (request.Collect n)) (behind_at_once w r q)
                 (hub_of then.journal) hub
                 (same_hub_back (hub_of then.journal) (behind_at_once w r q) hub_then));
-            boxes = called.boxes ∙ a.arrived.boxes ∙ sym two.boxes ∙ sym k.boxes;
+            boxes = called.boxes ∙ sym two.boxes ∙ sym k.boxes;
           }
 
     -- where all has arrived the receive is posted too, and doesn't wait
@@ -303,38 +315,37 @@ module _ (search : Search) (image : ImageParts) (waits_only : OnlyWaits search)
         told_same (waits comm source tag m e posted got collects hub) = absurd (cc)
         told_same (synchronous comm dest tag bytes e posted got hub) = absurd (cc)
 
-    waits_behind : Behind search new
-    waits_behind =
+    pub posts_leaves : Leaves (reply.Posted n false)
+    posts_leaves =
         let journal = with_entry c.journal entry in
         let o = outcome h r p in
         let made : hub_of journal ≡ o.1 = hub_entry c.journal entry in
-        let d : Cluster = record { ranks = new.ranks; journal = journal; boxes = new.boxes } in
+        let d : Cluster = record { ranks = told_so (reply.Posted n false) stamp; journal = journal; boxes = c.boxes } in
         let mine : NamesRightly o.1.board.lines poster =
         rightly_told h.board.lines o.1.board.lines rank hart (answer.Reply (reply.Posted n false)) stamp
         (grows_after h r p tt)
         ((a.state.good).names r rank here)
         (tells_named h (laid_after c.journal.links (calls_of c.journal.entries)) r p tt
-        (reply.Posted n false) told_posted) in
-        record {
-          cluster = d;
-          arrived = record {
+        (reply.Posted n false) told_posted) in (
+          d,
+          record {
             ranks = refl;
             boxes = refl;
             hub = subst (λ k. IsSameHub k (all_arrived (behind w r q))) (sym made) p_hub;
-          };
-          good = record {
+          },
+          record {
             waits = subst (WaitsWithin search.wild) (sym made)
                 (waits_after search.wild h (a.state.good).waits r p tt p_within);
             names = λ s y at.
                 subst (λ (k : HubView). NamesRightly k.board.lines y) (sym made)
-                (each_in (λ s y. NamesRightly o.1.board.lines y) a.now.ranks r poster mine
+                (each_in (λ s y. NamesRightly o.1.board.lines y) c.ranks r poster mine
                 (λ s y at. rightly_more h.board.lines o.1.board.lines y (grows_after h r p tt)
-                ((a.state.good).names s y (ap (λ xs. slice_get xs s) a.arrived.ranks ∙ at)))
-                s y (ap (λ x. slice_get (told_so x stamp) s) (sym posted) ∙ at));
-            boxes = λ i box at. (a.state.good).boxes i box (ap (λ bs. slice_get bs i) a.arrived.boxes ∙ at);
-            stands = stands_then (reply_on_way w r q);
-          };
-        }
+                ((a.state.good).names s y at))
+                s y at);
+            boxes = (a.state.good).boxes;
+            stands = stands_then (reply.Posted n false);
+          },
+        )
       where
         told_posted : (outcome h r p).0 ≡ reply.Posted n false
         told_posted = sym (at_hub p).0 ∙ ap (λ k. reply.Posted k false) number
@@ -344,13 +355,141 @@ module _ (search : Search) (image : ImageParts) (waits_only : OnlyWaits search)
                 let ps = posts_of (lines_of w) in
                 ap (λ k. k + 1) (sym (posts_length (pairs ps)) ∙ ap length (posts_pairs ps) ∙ posts_length (lines_of w))
 
-  -- ---- in each case
+  -- ---- its synchronous send is complete once it has arrived, and it waits
 
-  pub behind_it : Behind search new
-  behind_it = go goes
-    where
-      go : GoesAs w r on q → Behind search new
-      go (stays on_is none still) = vain_behind on_is none still
-      go (at_once reply hub) = same_behind reply hub
-      go (posts comm source tag m is posted got collects hub) =
-          waits_behind comm source tag m is posted got collects hub
+  module _ (comm dest tag : ℕ) (bytes : List ℕ) (is : q ≡ request.Send true comm dest tag bytes)
+      (posted : reply_on_way w r q ≡ reply.Posted (next_number w.hub.board) false)
+      (done : reply_at_once w r q ≡ reply.Posted (next_number w.hub.board) true)
+      (hub : IsSameHub (all_arrived (behind w r q)) (behind_at_once w r q))
+      (ssend : IsSsend (doing rank.site (part_of rank (search.harts r)))) where
+    abbrev number : ℕ
+    number = next_number w.hub.board
+
+    abbrev sender : Rank
+    sender = told rank hart (answer.Reply (reply.Posted number false)) stamp
+
+    has_it : hart < length rank.harts
+    has_it = has_hart rank hart (subst IsLive (sym asks) tt)
+
+    sender_waits : mode_of sender hart ≡ Waiting (Post number)
+    sender_waits = send_waits rank hart q has_it asks ssend number stamp
+
+    sender_asks : asked sender hart ≡ Ask.Hub (request.Finished number)
+    sender_asks = send_polls rank hart q has_it asks ssend number stamp
+
+    numbers : next_number w.hub.board ≡ next_number h.board
+    numbers =
+        let ps = posts_of (lines_of w) in
+        ap (λ k. k + 1)
+        (sym (posts_length (lines_of w)) ∙ ap length (sym (posts_pairs ps)) ∙ posts_length (pairs ps))
+        ∙ ap (λ ls. length ls + 1) (sym a.arrived.hub.lines)
+
+    -- where all has arrived it is told that its send is complete
+    done_there : (outcome h r q).0 ≡ reply.Posted (next_number h.board) true
+    done_there = sym (at_hub q).0 ∙ done ∙ ap (λ k. reply.Posted k true) numbers
+
+    module _ (d : Cluster) (two : Left (reply.Posted number false) d) where
+      sender_ranks : d.ranks ≡ slice_set c.ranks r sender
+      sender_ranks = two.ranks
+
+      sender_there : slice_get d.ranks r ≡ Some sender
+      sender_there = ap (λ xs. slice_get xs r) sender_ranks ∙ set_here c.ranks r sender rank here
+
+      -- the hub there is the one behind the turn of the machine
+      same_then : IsSameHub (hub_of then.journal) (hub_of d.journal)
+      same_then =
+          same_hub_on (hub_of then.journal) (behind_at_once w r q) (hub_of d.journal) hub_then
+          (same_hub_on (behind_at_once w r q) (all_arrived (behind w r q)) (hub_of d.journal)
+          (same_hub_back (all_arrived (behind w r q)) (behind_at_once w r q) hub)
+          (same_hub_back (hub_of d.journal) (all_arrived (behind w r q)) two.hub))
+
+      complete_there : (outcome (hub_of d.journal) r (request.Finished number)).0 ≡ reply.Done
+      complete_there =
+          (same_call (hub_of then.journal) (hub_of d.journal) r (request.Finished number) same_then).0
+          ∙ ap (λ k. (outcome k r (request.Finished number)).0) called.hubs
+          ∙ ap (λ p. (outcome (outcome h r p).1 r (request.Finished number)).0) is
+          ∙ ap (λ k. (outcome (outcome h r (request.Send true comm dest tag bytes)).1 r (request.Finished k)).0) numbers
+          ∙ complete_still h r comm dest tag bytes (ap (λ p. (outcome h r p).0) (sym is) ∙ done_there)
+
+      pub send_ready : IsReadyPoll search d r
+      send_ready = record {
+        rank = sender;
+        there = sender_there;
+        light = ap weight_in sender_waits;
+        q = request.Finished number;
+        asks = sender_asks;
+        ready = subst (IsReady (request.Finished number))
+            (sym (reply_is d.journal r (request.Finished number) ∙ complete_there)) tt;
+        within = λ z at.
+            let same = same_Some sender z (sym sender_there ∙ at) in
+            subst (λ z. IsAllowed search.patterns r (pattern_of z hart) × AskWithin search.wild r (asked z hart)
+            × PollWithin search.polls_of_complete r z hart) same (
+              subst (λ k. IsAllowed search.patterns r
+                  (pattern_of_ask (waits_on (doing sender.site (part_of sender hart))) k)) (sym sender_asks)
+                  (subst (λ b. IsAllowed search.patterns r (pattern_of_request b (request.Finished number)))
+                  (sym (polls_on sender hart number sender_waits)) tt),
+              subst (AskWithin search.wild r) (sym sender_asks) tt,
+              waits_within search.polls_of_complete r sender hart (polls_on sender hart number sender_waits),
+            );
+      }
+
+      -- its poll leads to where its turn leads on the machine
+      pub send_leads : (last : Cluster) → Turn r hart d last → IsNear last then
+      send_leads last poll =
+          let k = call_of r hart d last sender (request.Finished number) sender_there sender_asks poll in
+          let told_it : last.ranks ≡ told_so (reply.Posted number true) k.stamp =
+          k.ranks ∙ ap (λ x. slice_set d.ranks r (told sender hart (answer.Reply x) k.stamp)) complete_there
+          ∙ ap (λ xs. slice_set xs r (told sender hart (answer.Reply reply.Done) k.stamp)) sender_ranks
+          ∙ set_set c.ranks r sender (told sender hart (answer.Reply reply.Done) k.stamp)
+          ∙ ap (slice_set c.ranks r) (send_later rank hart q has_it asks ssend number stamp k.stamp) in
+          record {
+            ranks = subst (λ xs. AreNear xs then.ranks) (sym told_it)
+                (subst (AreNear (told_so (reply.Posted number true) k.stamp))
+                (sym (ranks_then ∙ ap (λ x. told_so x called.stamp) done))
+                (told_near c.ranks r hart rank (answer.Reply (reply.Posted number true)) k.stamp called.stamp));
+            hub = same_hub_on (hub_of last.journal) (hub_of d.journal) (hub_of then.journal)
+                (same_hub_back (hub_of d.journal) (hub_of last.journal)
+                (same_hub_is (hub_of d.journal) (hub_of last.journal)
+                (k.hubs ∙ asked_still h r comm dest tag bytes (hub_of d.journal) number)))
+                (same_hub_back (hub_of then.journal) (hub_of d.journal) same_then);
+            boxes = called.boxes ∙ sym two.boxes ∙ sym k.boxes;
+          }
+
+    pub completes_leaves : Leaves (reply.Posted number false)
+    completes_leaves =
+        let journal = then.journal in
+        let made : hub_of journal ≡ (outcome h r q).1 = called.hubs in
+        let d : Cluster = record { ranks = told_so (reply.Posted number false) stamp; journal = journal; boxes = c.boxes } in
+        let mine : NamesRightly (hub_of journal).board.lines sender =
+        subst (λ (k : HubView). NamesRightly k.board.lines sender) (sym made)
+        (rightly_told h.board.lines (outcome h r q).1.board.lines rank hart
+        (answer.Reply (reply.Posted number false)) stamp
+        (grows_after h r q listed) ((a.state.good).names r rank here) tells) in (
+          d,
+          record {
+            ranks = refl;
+            boxes = refl;
+            hub = same_hub_on (hub_of journal) (behind_at_once w r q) (all_arrived (behind w r q)) hub_then
+                (same_hub_back (all_arrived (behind w r q)) (behind_at_once w r q) hub);
+          },
+          record {
+            waits = (after.good).waits;
+            names = λ s y at.
+                each_in (λ s y. NamesRightly (hub_of journal).board.lines y) c.ranks r sender mine
+                (λ s y at. subst (λ (k : HubView). NamesRightly k.board.lines y) (sym made)
+                (rightly_more h.board.lines (outcome h r q).1.board.lines y (grows_after h r q listed)
+                ((a.state.good).names s y at)))
+                s y at;
+            boxes = (a.state.good).boxes;
+            stands = stands_then (reply.Posted number false);
+          },
+        )
+      where
+        listed : IsListed q
+        listed = subst IsListed (sym is) tt
+
+        -- it is told of its post, complete or not
+        tells : TellsOnly (may_be_awaited (outcome h r q).1.board.lines) (answer.Reply (reply.Posted number false))
+        tells =
+            tells_named h (laid_after c.journal.links (calls_of c.journal.entries)) r q (subst IsTold (sym is) tt)
+            (reply.Posted number true) (sym (at_hub q).0 ∙ done)

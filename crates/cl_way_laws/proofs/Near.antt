@@ -28,6 +28,7 @@ use Rattle.cl_reduction_laws.proofs.Awake.{map_set}
 use Rattle.cl_reduction_laws.proofs.Clusters.{set_kept}
 use Rattle.cl_reduction_laws.proofs.Machine.{each_itself}
 use Rattle.cl_way_laws.specs.Clusters.{IsArrived, WayCluster}
+use Rattle.cl_way_laws.specs.Met.{met}
 use Rattle.cl_way_laws.proofs.SameHubs.{same_hub_alike, same_hub_back, same_hub_on}
 
 -- the ranks are the same but for who is awake and for clocks
@@ -46,6 +47,12 @@ near_set xs r u v alike =
     (sym (map_set awake xs r v))
     (each_set (AlikeRanks no_renaming) (map awake xs) (map awake xs) r (awake u) (awake v) (near_itself xs) alike))
 
+-- one of them is the same but for that
+pub near_at : (xs : List Rank) (r : ℕ) (x y : Rank) → slice_get xs r ≡ Some x → AlikeRanks no_renaming (awake x) (awake y)
+    → AreNear xs (slice_set xs r y)
+near_at xs r x y here alike =
+    subst (λ ys. AreNear ys (slice_set xs r y)) (set_kept xs r x here) (near_set xs r x y alike)
+
 -- the same at another stamp
 pub told_near : (xs : List Rank) (r hart : ℕ) (x : Rank) (a : Answer) (stamp other : ℕ)
     → AreNear (slice_set xs r (told x hart a stamp)) (slice_set xs r (told x hart a other))
@@ -60,10 +67,9 @@ pub vain_near : (xs : List Rank) (r hart : ℕ) (x : Rank) (q : Request) (stamp 
     → waits_on (doing x.site (part_of x hart)) ≡ true → asked x hart ≡ Ask.Hub q
     → AreNear xs (slice_set xs r (told x hart (answer.Reply reply.NotYet) stamp))
 vain_near xs r hart x q stamp here on asks =
-    subst (λ ys. AreNear ys (slice_set xs r (told x hart (answer.Reply reply.NotYet) stamp))) (set_kept xs r x here)
-    (near_set xs r x (told x hart (answer.Reply reply.NotYet) stamp)
+    near_at xs r x (told x hart (answer.Reply reply.NotYet) stamp) here
     (subst (λ z. AlikeRanks no_renaming (awake x) z) (sym ((wake_law.vain) x hart stamp q on asks))
-    (rank_itself (awake x) stamp)))
+    (rank_itself (awake x) stamp))
 
 -- ---- clusters
 
@@ -87,12 +93,13 @@ near_alike wild c k sound near = (
 -- ---- clusters in which all has arrived
 
 -- where the ranks, the boxes and what will have arrived are the same on the way, they are
-pub arrived_near : (v w : WayCluster) (c d : Cluster) → IsArrived v c → IsArrived w d → AreNear v.ranks w.ranks
+pub arrived_near : (v w : WayCluster) (c d : Cluster) → IsArrived v c → IsArrived w d
+    → map (met (all_arrived v.way).board.lines) v.ranks ≡ map (met (all_arrived w.way).board.lines) w.ranks
     → w.boxes ≡ v.boxes
     → IsSameHub (all_arrived v.way) (all_arrived w.way)
     → IsNear c d
 arrived_near v w c d one two ranks boxes hub = record {
-  ranks = subst (λ xs. AreNear xs d.ranks) (sym one.ranks) (subst (AreNear v.ranks) (sym two.ranks) ranks);
+  ranks = subst (AreNear c.ranks) (one.ranks ∙ ranks ∙ sym two.ranks) (near_itself c.ranks);
   hub = same_hub_on (hub_of c.journal) (all_arrived v.way) (hub_of d.journal) one.hub
       (same_hub_on (all_arrived v.way) (all_arrived w.way) (hub_of d.journal) hub
       (same_hub_back (hub_of d.journal) (all_arrived w.way) two.hub));

@@ -3,7 +3,7 @@ use Rattle.std.proofs.Common.{◌≡◌, ◌∙◌, ℕ, ◌<◌, refl, sym, ap,
 use Rattle.std.specs.List.{slice_get}
 use Rattle.rv_image_types.specs.declared.images.ImageParts.{ImageParts}
 use Rattle.mp_way_laws.specs.Way.{all_arrived}
-use Rattle.cl_state.specs.Rank.{Rank}
+use Rattle.cl_state.specs.Rank.{Rank, below, loaded}
 use Rattle.cl_machine.specs.Cluster.{Cluster, loaded_cluster}
 use Rattle.cl_order_laws.specs.Closed.{Node, Plans}
 use Rattle.cl_deadlock_laws.proofs.Reached.{comes_reached}
@@ -21,9 +21,14 @@ use Rattle.cl_contest_laws.proofs.Lists.{list_closed, planned_of}
 use Rattle.cl_contest_laws.proofs.Walks.{IsPlanned}
 use Rattle.cl_way_laws.specs.Clusters.{HappensOnWay, IsArrived, IsWayRun, WayCluster, WayEvent, WayTurn, arrives, at_hub, elsewhere, turn, way_loaded}
 use Rattle.cl_way_laws.specs.Laws.{IsSearched}
+use Rattle.cl_way_laws.specs.Met.{met}
 use Rattle.cl_way_laws.proofs.Found.{found_along, found_matched, within_matched}
-use Rattle.cl_way_laws.proofs.Near.{arrived_near, good_too, near_alike, near_itself}
+use Rattle.cl_way_laws.proofs.MetHomes.{all_none, from_map}
+use Rattle.cl_way_laws.proofs.MetRanks.{there_met}
+use Rattle.cl_way_laws.proofs.Near.{arrived_near, good_too, near_alike}
+use Rattle.cl_way_laws.proofs.Named.{NamesApart, apart_first}
 use Rattle.cl_way_laws.proofs.Network.{arrived_behind, is_network, network, turned}
+use Rattle.cl_way_laws.proofs.Posting.{lines_now}
 use Rattle.cl_way_laws.proofs.SameHubs.{same_hub_itself}
 use Rattle.cl_way_laws.proofs.States.{WayState}
 use Rattle.cl_way_laws.proofs.Sure.{polls_sure}
@@ -65,13 +70,16 @@ module _ (search : Search) (plans : Plans) (nodes : List Node) (image : ImagePar
       now = way_loaded image;
       state = first;
       arrived = record {
-        ranks = refl;
+        ranks = sym (all_none (loaded_cluster image).ranks);
         boxes = refl;
         hub = record { links = refl; lines = refl; bodies = refl; claims = refl; sides = refl };
       };
       came = record { events = []; on = refl; named = tt };
       home = home_of image (loaded_cluster image) (comes_reached image [] (loaded_cluster image) refl)
           (searched.well).single.one;
+      apart = λ r rank at.
+          let f = from_map (loaded image) (below image.ranks) r rank at in
+          subst (λ (z : Rank). NamesApart z.requests) f.1 apart_first;
     }
 
     pub finds : (P : State search → Type 0) → IsLasting m P → (rs : List ℕ) (end : State search)
@@ -105,7 +113,7 @@ module _ (search : Search) (plans : Plans) (nodes : List Node) (image : ImagePar
     one_hart : (a : WayState search image) (r hart : ℕ) (rank : Rank) → slice_get a.now.ranks r ≡ Some rank
         → hart < length rank.harts → hart ≡ search.harts r
     one_hart a r hart rank there inside =
-        let one = (a.home r rank (ap (λ xs. slice_get xs r) a.arrived.ranks ∙ there)).one in
+        let one = (a.home r (met (lines_now a.now.way) rank) (there_met search image a r rank there)).one in
         let none = (searched.well).single.harts r in
         omega (arith, one, none, inside)
 
@@ -163,7 +171,7 @@ module _ (search : Search) (plans : Plans) (nodes : List Node) (image : ImagePar
         pub alike_there : m.Alike there k.here.state
         alike_there =
             near_alike search.wild c k.here.state.cluster (there.good).boxes
-            (arrived_near w w c k.here.state.cluster arrived arrived_there (near_itself w.ranks) refl
+            (arrived_near w w c k.here.state.cluster arrived arrived_there refl refl
             (same_hub_itself (all_arrived w.way)))
 
         -- turns of the machine lead to a node

@@ -20,7 +20,7 @@ use Rattle.cl_state.specs.Rank.{Rank}
 use Rattle.cl_state.specs.Told.{received, received_message, returned, told, with_status}
 use Rattle.cl_machine.specs.Journal.{reply_in}
 use Rattle.cl_way_laws.specs.Clusters.{at_hub}
-use Rattle.cl_way_laws.specs.Rows.{AtOnce, Named, NoEnd, Overtaken, WorkedWays, from_one, from_two, got, one_of_three, receives, sends}
+use Rattle.cl_way_laws.specs.Rows.{AtOnce, Named, NoEnd, Overtaken, PostedLater, Waited, WorkedWays, from_one, from_two, got, one_of_three, one_of_two, receives, sends, sends_and_goes_on, waits_for}
 
 -- ---- which message may arrive next
 
@@ -242,5 +242,72 @@ no_end = (
   λ ended. (let at = ended.arrived 0 first refl in absurd (none at.0 0 at.1)),
 )
 
+-- ---- a synchronous send
+
+abbrev fourth : Sent
+fourth = sending 1 true 0 0 7 from_one
+
+fourth_next : (w : WayView) (a : Selection) → posts_of (lines_of w) ≡ Receive a ∷ Send fourth ∷ [] → w.arrived ≡ []
+    → IsNext w 1 fourth
+fourth_next w a posts arrived = record {
+  is = ap (λ qs. slice_get qs 1) posts;
+  on_its_way = λ h. none h.0 1 (ap (λ xs. slice_get xs h.0) (sym arrived) ∙ h.1);
+  first = λ i other low at same. absurd (before i other low (ap (λ qs. slice_get qs i) (sym posts) ∙ at));
+}
+  where
+    before : (i : ℕ) (other : Sent) → i < 1 → slice_get (Receive a ∷ Send fourth ∷ []) i ≡ Some (Send other) → ⊥
+    before zero other low at = no_send a other at
+    before (suc i) other low at = omega (arith, low)
+
+abbrev receiver : Rank
+receiver = one_of_two 0 (receives 1 ∷ [])
+
+abbrev sender : Rank
+sender = one_of_two 1 (sends_and_goes_on 0 ∷ waits_for 1 ∷ [])
+
+-- its ISSEND was made, and its WAIT was, in vain
+abbrev has_sent : Rank
+has_sent = told sender 0 (Answer.Reply (reply.Posted 2 false)) 10
+
+abbrev has_waited : Rank
+has_waited = told has_sent 1 (Answer.Reply reply.NotYet) 11
+
+pub waited : Waited
+unfolding asked told doing returned received received_message with_status
+waited = (
+  _,
+  (
+    _,
+    at_hub receiver (request.Recv true 0 (Some 1) (Some 7)) 9 refl (omega arith) refl refl,
+    (
+      _,
+      at_hub sender (request.Send true 0 0 7 from_one) 10 refl (omega arith) refl refl,
+      (_, at_hub has_sent (request.Finished 2) 11 refl (omega arith) refl refl, refl),
+    ),
+  ),
+  refl,
+  refl,
+  _,
+  (
+    _,
+    (fourth_next _ _ refl refl, refl),
+    (_, at_hub has_waited (request.Finished 2) 12 refl (omega arith) refl refl, refl),
+  ),
+  refl,
+)
+
+pub posted_later : PostedLater
+unfolding asked told doing returned received received_message with_status
+posted_later = (
+  _,
+  (
+    _,
+    at_hub sender (request.Send true 0 0 7 from_one) 9 refl (omega arith) refl refl,
+    (_, at_hub receiver (request.Recv true 0 (Some 1) (Some 7)) 10 refl (omega arith) refl refl, refl),
+  ),
+  refl,
+  refl,
+)
+
 pub worked_ways : WorkedWays
-worked_ways = record { overtaken = overtaken; named = named; no_end = no_end; at_once = at_once }
+worked_ways = record { overtaken = overtaken; named = named; no_end = no_end; at_once = at_once; waited = waited; posted_later = posted_later }

@@ -17,6 +17,7 @@ use Rattle.cl_order_laws.proofs.Each.{was_there}
 use Rattle.cl_reduction_laws.specs.Clusters.{IsGood, Search, State}
 use Rattle.cl_contest_laws.proofs.Homes.{AreHome}
 use Rattle.cl_way_laws.specs.Clusters.{IsArrived, WayCluster}
+use Rattle.cl_way_laws.proofs.Named.{NamesApart}
 
 -- ---- one rank of a list
 
@@ -69,8 +70,10 @@ pub record WayState (search : Search) (image : ImageParts) : Type 0 where
   pub arrived : IsArrived now state.cluster
   pub came : IsCameTo image.links now.way
   pub home : AreHome image state.cluster
+  -- each rank's requests name each post once
+  pub apart : (r : ℕ) (rank : Rank) → slice_get now.ranks r ≡ Some rank → NamesApart rank.requests
 
--- where all has arrived behind a turn
+-- where all has arrived
 pub record Behind (search : Search) (v : WayCluster) : Type 0 where
   pub cluster : Cluster
   pub arrived : IsArrived v cluster

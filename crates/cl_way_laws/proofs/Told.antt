@@ -1,14 +1,19 @@
 -- What a search tells of runs with messages on their way.
-use Rattle.std.proofs.Common.{◌≡◌, ◌∙◌, ℕ, refl, sym, ap, subst, arith, inl, inr, true, List, [], ◌∷◌, length, Some}
+use Rattle.std.proofs.Common.{◌≡◌, ◌∙◌, ℕ, ◌⊎◌, sym, ap, subst, arith, inl, inr, Bool, true, List, [], ◌∷◌, length, Some}
 use Rattle.std.specs.List.{slice_get}
 use Rattle.rv_image_types.specs.declared.images.ImageParts.{ImageParts}
+use Rattle.mp_types.specs.declared.replies.Reply.{Reply}
+use Rattle.mp_types.specs.declared.replies.Reply.TheVariants as reply
+use Rattle.mp_types.specs.declared.requests.Request.TheVariants as request
+use Rattle.mp_match.specs.declared.posts.Line.{Line}
+use Rattle.mp_hub.specs.Hub.{outcome}
 use Rattle.mp_way_laws.specs.Way.{all_arrived}
 use Rattle.mp_way_laws.specs.Runs.{NamesSource}
 use Rattle.mp_way_laws.specs.Laws.{IsCameTo}
 use Rattle.cl_state.specs.declared.asking.Ask.{Ask}
 use Rattle.cl_state.specs.Asked.{asked, doing, part_of}
 use Rattle.cl_state.specs.Rank.{Rank}
-use Rattle.cl_state_laws.specs.Vain.{waits_on}
+use Rattle.cl_state_laws.specs.Vain.{IsPatient, IsStopped, mode_of, waits_on}
 use Rattle.cl_machine.specs.Boxes.{box_number}
 use Rattle.cl_machine.specs.Cluster.{Cluster}
 use Rattle.cl_order_laws.specs.Alike.{hub_of}
@@ -22,6 +27,7 @@ use Rattle.cl_reduction_laws.specs.Below.{AreAlike, AskWithin}
 use Rattle.cl_reduction_laws.specs.Clusters.{Search, State, awake_cluster, cluster_machine}
 use Rattle.cl_reduction_laws.specs.Patterns.{IsAllowed, pattern_of_ask}
 use Rattle.cl_reduction_laws.specs.Settled.{AreOnSides}
+use Rattle.cl_reduction_laws.proofs.Awake.{from_mapped}
 use Rattle.cl_delay_laws.specs.Laws.{PollsOn as StatesPollOn}
 use Rattle.cl_delay_laws.proofs.Polls.{along}
 use Rattle.cl_contest_laws.specs.Laws.{HasAlikeEnd, HasNeed}
@@ -37,8 +43,15 @@ use Rattle.cl_contest_laws.proofs.Rest.{AllRest, alike_back, alike_on}
 use Rattle.cl_contest_laws.proofs.Walks.{by_plans}
 use Rattle.cl_way_laws.specs.Clusters.{IsArrived, IsInVainOnWay, IsWayEnd, WayCluster}
 use Rattle.cl_way_laws.specs.Laws.{IsRunAtOnce, IsSearched, PollsOn, WayClusterLaw}
+use Rattle.cl_way_laws.specs.Met.{is_met, met}
 use Rattle.cl_way_laws.proofs.AllCame.{vain_now}
 use Rattle.cl_way_laws.proofs.Asking.{names_source}
+use Rattle.cl_way_laws.proofs.MetAsks.{DoesSame, asks_met, doing_met}
+use Rattle.cl_way_laws.proofs.MetEnds.{gathers_then}
+use Rattle.cl_way_laws.proofs.MetNeeds.{Gathers, WaitsForMet, gathers_asks, wait_asks}
+use Rattle.cl_way_laws.proofs.MetRanks.{same_within}
+use Rattle.cl_way_laws.proofs.Named.{NamesApart}
+use Rattle.cl_way_laws.proofs.Posting.{met_is_done}
 use Rattle.cl_way_laws.proofs.Reached.{Reached, alike_there, are_closed, arrived_there, finds_there, first, home_there, is, matched, planned, reached, there}
 use Rattle.cl_way_laws.proofs.SameHubs.{same_call}
 use Rattle.cl_way_laws.proofs.Sure.{polls_sure}
@@ -55,6 +68,9 @@ module _ (search : Search) (plans : Plans) (nodes : List Node) (image : ImagePar
     (arrived : IsArrived w c) where
   abbrev a : State search
   a = there search plans nodes image searched w k c arrived
+
+  abbrev lines : List Line
+  lines = (all_arrived w.way).board.lines
 
   abbrev planned_so : (r i : ℕ) → plans r i ≡ search.harts r
   planned_so = planned search plans nodes image searched
@@ -117,15 +133,85 @@ module _ (search : Search) (plans : Plans) (nodes : List Node) (image : ImagePar
     vain_there r rank at Ask.Idle asks none = none
     vain_there r rank at (Ask.Ready link part bytes) asks none = none
 
+    abbrev d : Rank → ℕ → Bool
+    d x = is_met lines x.site.number
+
+    choice : (r : ℕ) (x : Rank) → slice_get c.ranks r ≡ Some (met lines x)
+        → DoesSame (d x) x.memory x.requests (doing x.site (part_of x (search.harts r)))
+        ⊎ (WaitsForMet (d x) x.requests (doing x.site (part_of x (search.harts r)))
+        ⊎ Gathers (d x) x.memory x.requests (doing x.site (part_of x (search.harts r))))
+    choice r x at = same_within search searched.waits c r (λ z at. found_node.within r z at) lines x at
+
+    -- a WAITALL that isn't told anything there
+    gathers_rest : (r : ℕ) (x : Rank) → slice_get w.ranks r ≡ Some x → slice_get c.ranks r ≡ Some (met lines x)
+        → Gathers (d x) x.memory x.requests (doing x.site (part_of x (search.harts r)))
+        → IsInVainOnWay w r (asked x (search.harts r)) → IsInVain c r (asked (met lines x) (search.harts r))
+    gathers_rest r x there at g none =
+        subst (IsInVain c r) (sym then.1)
+        (reply_is c.journal r (request.All then.0)
+        ∙ sym (same_call (hub_of c.journal) (all_arrived w.way) r (request.All then.0) arrived.hub).0
+        ∙ then.2)
+      where
+        apart : NamesApart x.requests
+        apart = k.here.apart r x (ap (λ (v : WayCluster). slice_get v.ranks r) k.is_here ∙ there)
+
+        number : x.site.number ≡ r
+        number =
+            ap (λ s. s.number) (home_there search plans nodes image searched w k c arrived r (met lines x) at).site
+
+        never : (outcome (all_arrived w.way) r (request.All (g.post ∷ g.posts))).0 ≡ reply.NotYet
+        never =
+            vain_now image.links w.way came ended.arrived r (request.All (g.post ∷ g.posts)) tt
+            (subst (IsInVainOnWay w r) (gathers_asks (d x) x (search.harts r) g) none)
+
+        then : (ns : List ℕ) × (asked (met lines x) (search.harts r) ≡ Ask.Hub (request.All ns))
+            × ((outcome (all_arrived w.way) r (request.All ns)).0 ≡ reply.NotYet)
+        then = gathers_then (all_arrived w.way) x (search.harts r) g apart r number never
+
+    -- it waits for what isn't there, or for what has arrived, which it would be told
+    rests_so : (r : ℕ) (x : Rank) → slice_get w.ranks r ≡ Some x → slice_get c.ranks r ≡ Some (met lines x)
+        → IsPatient x (search.harts r) → IsInVainOnWay w r (asked x (search.harts r))
+        → IsPatient (met lines x) (search.harts r) × IsInVain c r (asked (met lines x) (search.harts r))
+    rests_so r x there at patient none = elim (choice r x at) [
+      | inl same ↦
+          let asks = asks_met (d x) x (search.harts r) same in (
+            record {
+              waits = patient.waits;
+              on = ap waits_on (doing_met (d x) x.site (part_of x (search.harts r))) ∙ patient.on;
+            },
+            subst (IsInVain c r) (sym asks) (vain_there r (met lines x) at (asked x (search.harts r)) asks none),
+          )
+      | inr (inl waits_so) ↦
+          let never = vain_now image.links w.way came ended.arrived r (request.Finished waits_so.n) tt
+          (subst (IsInVainOnWay w r) (wait_asks (d x) x (search.harts r) waits_so) none) in
+          let number : x.site.number ≡ r =
+          ap (λ s. s.number) (home_there search plans nodes image searched w k c arrived r (met lines x) at).site in
+          let done = met_is_done (all_arrived w.way) r waits_so.n
+          (ap (λ k. is_met lines k waits_so.n) (sym number) ∙ (waits_so.names).met) in
+          absurd (done_is_not _ never done)
+      | inr (inr gathers_so) ↦
+          let on = ap waits_on (doing_met (d x) x.site (part_of x (search.harts r)) ∙ gathers_so.is) in
+          (record { waits = patient.waits; on = on }, gathers_rest r x there at gathers_so none)
+    ]
+      where
+        done_is_not : (x : Reply) → x ≡ reply.NotYet → x ≡ reply.Done → ⊥
+        done_is_not x none done = (let e = sym none ∙ done in absurd (cc))
+
+    abbrev Rests : ℕ → Rank → Type 0
+    Rests r rank =
+        IsStopped (mode_of rank (search.harts r))
+        ⊎ (IsPatient rank (search.harts r) × IsInVain c r (asked rank (search.harts r)))
+
     rest : AllRest search c
     rest r rank at =
+        let f = from_mapped (met lines) w.ranks r rank (ap (λ xs. slice_get xs r) (sym arrived.ranks) ∙ at) in
+        let its : slice_get c.ranks r ≡ Some (met lines f.0) = at ∙ ap (λ z. Some z) (sym f.2) in
         let zero = zero_harts r in
-        let many = one r rank at in
-        elim (ended.nobody r (search.harts r) rank (ap (λ xs. slice_get xs r) (sym arrived.ranks) ∙ at)
-        (omega (arith, zero, many))) [
+        let many = one r (met lines f.0) its in
+        subst (Rests r) f.2 (elim (ended.nobody r (search.harts r) f.0 f.1 (omega (arith, zero, many))) [
           | inl stopped ↦ inl stopped
-          | inr waits ↦ inr (waits.0, vain_there r rank at (asked rank (search.harts r)) refl waits.1)
-        ]
+          | inr waits ↦ inr (rests_so r f.0 f.1 its waits.0 waits.1)
+        ])
 
     pub ends : HasAlikeEnd search plans nodes c
     ends =

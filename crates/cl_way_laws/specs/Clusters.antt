@@ -1,5 +1,5 @@
 -- The cluster on whose network each message is on its way until it arrives.
-use Rattle.std.specs.Prelude.{ℕ, ◌<◌, ◌≡◌, ◌⊎◌, List, [], ◌∷◌, length, Some}
+use Rattle.std.specs.Prelude.{ℕ, ◌<◌, ◌≡◌, ◌⊎◌, List, [], ◌∷◌, length, map, Some}
 use Rattle.std.specs.List.{slice_get, slice_set}
 use Rattle.rv_image_types.specs.declared.images.ImageParts.{ImageParts}
 use Rattle.mp_types.specs.declared.replies.Reply.TheVariants.{NotYet}
@@ -22,6 +22,7 @@ use Rattle.cl_machine.specs.Cluster.{Cluster, loaded_cluster}
 use Rattle.cl_machine.specs.Journal.{Journal, empty_journal}
 use Rattle.cl_order_laws.specs.Alike.{Leads, hub_of}
 use Rattle.cl_order_laws.specs.Closed.{IsInVain}
+use Rattle.cl_way_laws.specs.Met.{met}
 
 -- its ranks, a hub with what is on its way (MPI 4.1, 3.5), and boxes: each of these has one sender and one receiver, so
 -- partitions are there as soon as they are ready (4.2). Clocks and stamps mean nothing here
@@ -104,8 +105,9 @@ pub record IsWayEnd (w : WayCluster) : Type 0 where
 
 -- ---- once all has arrived
 
--- the cluster in which all that is on its way has arrived: it has the same ranks and boxes, and a hub of the same posts
+-- the cluster in which all that is on its way has arrived: it has the same boxes, a hub of the same posts, and the same ranks,
+-- but that a request is complete whose synchronous send has a receive that was posted before it (MPI 4.1, 3.4)
 pub record IsArrived (w : WayCluster) (c : Cluster) : Type 0 where
-  pub ranks : c.ranks ≡ w.ranks
+  pub ranks : c.ranks ≡ map (met (all_arrived w.way).board.lines) w.ranks
   pub boxes : c.boxes ≡ w.boxes
   pub hub : IsSameHub (hub_of c.journal) (all_arrived w.way)

@@ -15,6 +15,9 @@ use Rattle.cl_contest_laws.specs.Lists.{IsClosedByContest, IsOneOf, StartsWell}
 use Rattle.cl_way_laws.specs.Clusters.{IsArrived, IsWayEnd, IsWayRun, WayCluster, WayEvent, way_loaded}
 use Rattle.cl_contests.specs.Waiting.{OnlyWaits}
 
+abbrev pub loaded_node : ImageParts → Node
+loaded_node image = record { cluster = loaded_cluster image; had = none_had }
+
 -- a search of the image that left no state, of a program that only waits for named ranks
 pub record IsSearched (search : Search) (plans : Plans) (nodes : List Node) (image : ImageParts) : Type 0 where
   pub waits : OnlyWaits search
@@ -22,12 +25,9 @@ pub record IsSearched (search : Search) (plans : Plans) (nodes : List Node) (ima
   pub settled : IsSettled search (IsOneOf nodes) (loaded_cluster image)
   pub closed : IsClosedByContest search plans nodes
 
-abbrev pub loaded_node : ImageParts → Node
-loaded_node image = record { cluster = loaded_cluster image; had = none_had }
-
 -- ---- runs
 
--- each of these ranks in turn polls its own receive, whose message is there
+-- each of these ranks in turn polls its own RECV, whose message is there, or its own SSEND, whose receive is
 abbrev pub PollsOn : Search → List ℕ → Cluster → Cluster → Type 0
 PollsOn search [] old new = new ≡ old
 PollsOn search (r ∷ rs) old new =

@@ -1,3 +1,4 @@
+pub mod Met
 pub mod Clusters
 pub mod Laws
 pub mod Rows

@@ -1,12 +1,18 @@
--- Worked rows: rank 1 sends to rank 0 and then to rank 2, which sends to rank 0 because of that. What stands at 16 of
--- rank 0 in the end?
-use Rattle.std.specs.Prelude.{ℕ, ◌≡◌, List, [], ◌∷◌, map, take, false, true}
+-- Worked rows. Rank 1 sends to rank 0 and then to rank 2, which sends to rank 0 because of that: what stands at 16 of rank 0
+-- in the end? And when does a WAIT for a synchronous send return?
+use Rattle.std.specs.Prelude.{ℕ, ◌≡◌, List, [], ◌∷◌, map, take, false, true, Option, Some, None}
 use Rattle.rv_hart.specs.State.{State}
 use Rattle.rv_memory.specs.Memory.{bytes_at}
 use Rattle.mp_types.specs.declared.messages.Message.{Message}
 use Rattle.mp_types.specs.declared.replies.Reply.TheVariants as reply
+use Rattle.mp_request.specs.declared.entries.OpenRequest.{OpenRequest}
+use Rattle.mp_request.specs.declared.entries.Progress.{Progress}
+use Rattle.mp_request.specs.declared.entries.Progress.TheVariants.{Finished, OnPost}
+use Rattle.mp_request.specs.declared.entries.State.TheVariants.{Ordinary}
+use Rattle.mp_request.specs.declared.entries.Transfer.TheVariants as transfer
+use Rattle.mp_request.specs.Table.{request_at}
 use Rattle.mp_hub.specs.Hub.{sending}
-use Rattle.mp_way_laws.specs.Way.{way_at_start}
+use Rattle.mp_way_laws.specs.Way.{all_arrived, way_at_start}
 use Rattle.cl_calls.specs.Calls.{any}
 use Rattle.cl_state.specs.Rank.{Rank}
 use Rattle.cl_state.specs.Rows.{calling, first_of_two, guest}
@@ -15,6 +21,7 @@ use Rattle.cl_machine.specs.Cluster.{Cluster, IsRun}
 use Rattle.cl_machine.specs.Journal.{empty_journal}
 use Rattle.cl_machine.specs.Worked.{step_by}
 use Rattle.cl_way_laws.specs.Clusters.{IsWayEnd, IsWayRun, WayCluster, WayEvent, arrives, turn, with_journal}
+use Rattle.cl_way_laws.specs.Met.{met}
 
 -- ---- three ranks, each hart at one call
 
@@ -97,8 +104,59 @@ AtOnce =
     end
     × (at_16 end.ranks ≡ from_one ∷ [])
 
+-- ---- two ranks: rank 0 makes a RECV from rank 1, which makes an ISSEND to it and a WAIT for that
+
+abbrev pub one_of_two : ℕ → List State → Rank
+one_of_two number harts = record (guest [] 0) { site = record first_of_two { number = number }; harts = harts }
+
+-- ISSEND of the 2 bytes at 9, with tag 7
+abbrev pub sends_and_goes_on : ℕ → State
+sends_and_goes_on to = calling (9 ∷ 2 ∷ to ∷ 7 ∷ 0 ∷ []) 20
+
+-- WAIT for the request of this handle, with no status
+abbrev pub waits_for : ℕ → State
+waits_for handle = calling (handle ∷ 0 ∷ []) 23
+
+abbrev pub two : WayCluster
+two = record {
+  ranks = one_of_two 0 (receives 1 ∷ []) ∷ one_of_two 1 (sends_and_goes_on 0 ∷ waits_for 1 ∷ []) ∷ [];
+  way = way_at_start [];
+  boxes = [];
+}
+
+-- what handle 1 names at each rank
+abbrev pub at_handle_1 : List Rank → List (Option OpenRequest)
+at_handle_1 ranks = map (λ (rank : Rank). request_at rank.requests 1) ranks
+
+-- the same once all has arrived
+abbrev pub then_at_handle_1 : WayCluster → List (Option OpenRequest)
+then_at_handle_1 w = at_handle_1 (map (met (all_arrived w.way).board.lines) w.ranks)
+
+-- rank 1's request
+abbrev pub the_send : Progress → OpenRequest
+the_send progress = record { transfer = transfer.Send true 9 2 0 7 0; state = Ordinary progress }
+
+-- the receive is post 1 and the send post 2. While its message is on its way the WAIT has to be made anew, and once all
+-- has arrived the send is complete; when it arrives, the WAIT returns, and its request is gone
+abbrev pub Waited : Type 0
+Waited =
+    (mid : WayCluster) × IsWayRun two (turn 0 0 ∷ turn 1 0 ∷ turn 1 1 ∷ []) mid
+    × (at_handle_1 mid.ranks ≡ None ∷ Some (the_send (OnPost 2)) ∷ [])
+    × (then_at_handle_1 mid ≡ None ∷ Some (the_send Finished) ∷ [])
+    × (end : WayCluster) × IsWayRun mid (arrives 1 (sending 1 true 0 0 7 from_one) ∷ turn 1 1 ∷ []) end
+    × (at_handle_1 end.ranks ≡ None ∷ None ∷ [])
+
+-- where the receive is posted after the send, a WAIT has to ask for it also where messages arrive at once
+abbrev pub PostedLater : Type 0
+PostedLater =
+    (end : WayCluster) × IsWayRun two (turn 1 0 ∷ turn 0 0 ∷ []) end
+    × (at_handle_1 end.ranks ≡ None ∷ Some (the_send (OnPost 1)) ∷ [])
+    × (then_at_handle_1 end ≡ None ∷ Some (the_send (OnPost 1)) ∷ [])
+
 pub record WorkedWays : Type 0 where
   pub overtaken : Overtaken
   pub named : Named
   pub no_end : NoEnd
   pub at_once : AtOnce
+  pub waited : Waited
+  pub posted_later : PostedLater
