@@ -1,6 +1,5 @@
 -- One schedule, followed to its end.
 use Rattle.std.specs.Prelude.{ℕ, ◌+◌, ◌≡◌, ◌<◌, List, [], ◌∷◌, ◌++◌, length, slice_get, Option, Some, None, Bool, false, true, IfSome}
-use Rattle.std.specs.Option.{option_to_list}
 use Rattle.std.proofs.Common.{refl, sym, ap, ◌∙◌, subst, arith, inl, inr}
 use Rattle.std.proofs.lemmas.List.{length-append}
 use Rattle.std.proofs.lemmas.Option.{same_Some}
@@ -18,27 +17,26 @@ use Rattle.cl_explore.specs.Diving.{Dives, Ends, Follows, IsEndAt, IsNextTurn}
 use Rattle.cl_explore.specs.Ends.{ExploredFrom, ExploresFrom, Findings, IsBounded, IsVisitedNode, StillExplores}
 use Rattle.cl_explore.specs.How.{How}
 use Rattle.cl_explore.specs.Kept.{IsLiveOf}
+use Rattle.cl_explore.specs.Orders.{IsChosen}
 use Rattle.cl_explore.specs.Searching.{Adds}
 use Rattle.cl_explore.specs.declared.companies.Company.{Company}
 use Rattle.cl_explore.specs.declared.kept.KeptNode.{KeptNode}
 use Rattle.cl_explore.specs.declared.leads.Lead.{Lead}
 use Rattle.cl_explore.specs.declared.search.Search.{Search}
-use Rattle.cl_explore.proofs.Lists.{at_inside, at_last, stays_at, was_or_new}
+use Rattle.cl_explore.proofs.Lists.{at_inside, stays_at, was_or_new}
 use Rattle.cl_explore.proofs.Keeping.{before_at, no_way}
 use Rattle.cl_explore.proofs.Covers.{closed_more, closed_over, leads_more, reaches_more}
 use Rattle.cl_explore.proofs.Tries.{live_at}
 
 -- ---- turns
 
--- the last of the turns of the next hart is one of its turns
-pub last_is_next : (order : List ℕ) (standing : Standing) (rank hart : ℕ) (turns rest : List Step) (o : Option Step)
-    → IsNextHart order standing rank (Some hart) → AreTurnsOf rank hart turns → turns ≡ rest ++ option_to_list o
+-- a turn that is chosen among those of the next hart is one of its turns
+pub chosen_is_next : (order : List ℕ) (standing : Standing) (rank hart : ℕ) (turns : List Step) {misses : Bool} (o : Option Step)
+    → IsNextHart order standing rank (Some hart) → AreTurnsOf rank hart turns → IsChosen turns misses o
     → IfSome o (IsNextTurn order standing)
-last_is_next order standing rank hart turns rest None next own is = tt
-last_is_next order standing rank hart turns rest (Some e) next own is =
-    let at : slice_get turns (length rest) ≡ Some e =
-    subst (λ es. slice_get es (length rest) ≡ Some e) (sym is) (at_last rest e) in
-    let of = own (length rest) e at in (
+chosen_is_next order standing rank hart turns None next own is = tt
+chosen_is_next order standing rank hart turns (Some e) next own is =
+    let of = own (is.0).0 e (is.0).1 in (
       next.0,
       subst (λ r. slice_get standing.had.items r ≡ Some next.0) (sym of.rank_is) next.1,
       of.hart_is ∙ next.2,

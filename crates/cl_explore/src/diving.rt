@@ -6,9 +6,11 @@ ghost use Rattle.cl_explore.specs.How.{how_in};
 
 use crate::course::Manner;
 use crate::likeness::key_of;
+use crate::orders::chosen;
 use crate::search::Search;
 use cl_machine::Step;
 use cl_moves::{MoveFault, Standing, is_done, is_end, is_in_vain, turns_of};
+use cl_state::Ask;
 use std::alloc::AllocError;
 
 /// How often each rank has its turn in one schedule, at most.
@@ -20,9 +22,9 @@ const MOST_ALONE: u64 = 1024;
 /// How many turns one schedule takes, at most: a rank that polls or counts would never be done.
 const MOST_TURNS: usize = 1_000_000;
 
-/// Whether a hart of a rank asks for what isn't there, if it is there itself. Nothing depends on it but which turn is taken. The
-/// only error is want of memory, for the posts of a WAITALL.
-fn asks_in_vain(live: &Standing, rank: u8, hart: u8) -> Result<bool, AllocError> {
+/// Whether a hart of a rank looks at a box that isn't as it asks. Nothing depends on it but which turn is taken. The only error
+/// is want of memory, for the posts of a WAITALL.
+fn looks_in_vain(live: &Standing, rank: u8, hart: u8) -> Result<bool, AllocError> {
     let Some(own) = live.cluster.ranks.get(usize::from(rank)) else {
         return Ok(false);
     };
@@ -30,7 +32,8 @@ fn asks_in_vain(live: &Standing, rank: u8, hart: u8) -> Result<bool, AllocError>
         return Ok(false);
     }
     let ask = own.ask(hart)?;
-    Ok(is_in_vain(&live.cluster, rank, &ask))
+    let looks = matches!(ask, Ask::Look { .. } | Ask::Freed { .. });
+    Ok(looks && is_in_vain(&live.cluster, rank, &ask))
 }
 
 /// The next turn of a rank that isn't stopped: a look at a box sees what is there, and misses only what isn't. None where the
@@ -51,12 +54,9 @@ fn next_turn(course: &Manner<'_>, live: &Standing, rank: u8) -> Result<Option<St
     let Some(hart) = live.next_hart(rank, course.order) else {
         return Ok(None);
     };
-    let mut turns = turns_of(course.alloc, &live.cluster, rank, hart)?;
-    // of a look the last turn sees what is there, and the one before it misses
-    if turns.len() > 1 && asks_in_vain(live, rank, hart)? {
-        let _sees = turns.pop();
-    }
-    Ok(turns.pop())
+    let turns = turns_of(course.alloc, &live.cluster, rank, hart)?;
+    let misses = looks_in_vain(live, rank, hart)?;
+    Ok(chosen(turns, misses))
 }
 
 /// The next turn of a rank, if it has one, and those behind it that need only the rank. Answers whether the turn was taken or

@@ -77,7 +77,7 @@ pub(crate) fn turns_in(alloc: Global, steps: &[Step]) -> Result<Vec<Turn>, Alloc
 }
 
 /// The one of a hart's turns that misses, or that doesn't.
-fn chosen(mut turns: Vec<Step>, misses: bool) -> Option<Step>
+pub(crate) fn chosen(mut turns: Vec<Step>, misses: bool) -> Option<Step>
     ensures { IsChosen turns.items misses result }
 {
     'rest: loop {
