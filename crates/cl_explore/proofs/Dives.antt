@@ -31,11 +31,11 @@ use Rattle.cl_explore.proofs.Tries.{live_at}
 -- ---- turns
 
 -- a turn that is chosen among those of the next hart is one of its turns
-pub chosen_is_next : (order : List ℕ) (standing : Standing) (rank hart : ℕ) (turns : List Step) {misses : Bool} (o : Option Step)
+pub chosen_is_next : (order : List ℕ) (standing : Standing) (rank hart : ℕ) (turns : List Step) (misses : Bool) (o : Option Step)
     → IsNextHart order standing rank (Some hart) → AreTurnsOf rank hart turns → IsChosen turns misses o
     → IfSome o (IsNextTurn order standing)
-chosen_is_next order standing rank hart turns None next own is = tt
-chosen_is_next order standing rank hart turns (Some e) next own is =
+chosen_is_next order standing rank hart turns misses None next own is = tt
+chosen_is_next order standing rank hart turns misses (Some e) next own is =
     let of = own (is.0).0 e (is.0).1 in (
       next.0,
       subst (λ r. slice_get standing.had.items r ≡ Some next.0) (sym of.rank_is) next.1,
