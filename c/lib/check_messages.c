@@ -606,7 +606,7 @@ static void look_for_messages(unsigned behind, MPI_Comm c)
         if (head.mark == RVMC_LETTER_MARK)
             RVMC_TELL(behind, head.behind, "%s: nobody received %d %s with tag %d, which rank %d sent by %s",
                       rvmc_check_call("MPI_Finalize", behind), (long)head.count, sent_type(&head), (long)status.MPI_TAG,
-                      (long)status.MPI_SOURCE,
+                      (long)head.sender,
                       rvmc_check_call(senders[head.call % (sizeof senders / sizeof *senders)], head.behind));
     }
 }
@@ -632,11 +632,22 @@ int rvmc_all_received(struct group *g)
     return all;
 }
 
+/* A communicator that was freed is looked through as one of all ranks: who frees it hasn't received what was sent there before, and
+   every message has its receive (11.2.2). */
+static void open_again(MPI_Comm c)
+{
+    rvmc_table[c].ranks = rvmc_table[c].places = 0x76543210;
+    rvmc_table[c].me = (signed char)rvmc_rank;
+    rvmc_table[c].size = MOST_RANKS;
+}
+
 void rvmc_messages_at_the_end(unsigned behind)
 {
     for (MPI_Comm c = 0; c < RVMC_COMMUNICATORS; c++) {
         int rank;
 
+        if (c > MPI_COMM_SELF && rvmc_table[c].context == c && !rvmc_table[c].size)
+            open_again(c);
         if (!rvmc_asked_of(RVMC_RANK, c, &rank) && (c == MPI_COMM_WORLD || rvmc_table[c].context >= 0))
             look_for_messages(behind, c);
     }

@@ -161,19 +161,43 @@ static void put_call(const struct rvmc_head *head)
         rvmc_put(" (%s:%d)", rvmc_file_of(place), (long)place->line);
 }
 
+struct mismatch {
+    struct rvmc_head heads[2];
+    int ranks[2];
+};
+
+static void tell(const struct mismatch *m)
+{
+    rvmc_begin_line();
+    rvmc_put("collective mismatch: rank %d in ", (long)m->ranks[0]);
+    put_call(&m->heads[0]);
+    rvmc_put(", rank %d in ", (long)m->ranks[1]);
+    put_call(&m->heads[1]);
+    rvmc_put("\n");
+}
+
+static struct mismatch unheeded;
+
+static void tell_unheeded(void)
+{
+    tell(&unheeded);
+}
+
 int rvmc_wrong_mismatch(const struct group *g)
 {
-    const struct rvmc_head *theirs = (const struct rvmc_head *)g->argument, *heads[2] = {&g->mine, theirs};
-    int answer = rvmc_handled(g->communicator, differs(&g->mine, theirs)), first = g->value < rvmc_rank;
-    long ranks[2] = {rvmc_rank, g->value};
+    const struct rvmc_head *theirs = (const struct rvmc_head *)g->argument;
+    int answer = rvmc_handled(g->communicator, differs(&g->mine, theirs)), mine = g->value < rvmc_rank;
+    struct mismatch m;
 
-    if (answer)
-        return answer;
-    rvmc_begin_line();
-    rvmc_put("collective mismatch: rank %d in ", ranks[first]);
-    put_call(heads[first]);
-    rvmc_put(", rank %d in ", ranks[!first]);
-    put_call(heads[!first]);
-    rvmc_put("\n");
-    return 0;
+    m.heads[mine] = g->mine;
+    m.ranks[mine] = rvmc_rank;
+    m.heads[!mine] = *theirs;
+    m.ranks[!mine] = (int)g->value;
+    if (!answer) {
+        tell(&m);
+    } else if (!rvmc_unheeded) {
+        unheeded = m;
+        rvmc_unheeded = tell_unheeded;
+    }
+    return answer;
 }

@@ -1,5 +1,6 @@
 /* orders.c: compares the collectives of a communicator's ranks (orders.h), and tells where they differ. */
 #include <stddef.h>
+#include <string.h>
 #include "../mpi.h"
 #include "contexts.h"
 #include "errors.h"
@@ -102,7 +103,8 @@ static struct difference {
     int they_are, i_am;                           /* whether a rank is in that call still, as far as is known */
     unsigned number;                              /* of a persistent one, where numbers are how often it was started */
     int earlier;                                  /* calls before differ too */
-} unheeded;                                       /* the first that an error handler returned */
+} unheeded;                                       /* what an error handler returned first */
+void (*rvmc_unheeded)(void);
 
 /* How far an order had come, of the calls that are known: the last ones, of an order or of a head. */
 struct walk {
@@ -164,17 +166,31 @@ static int back_to_same(struct walk *a, struct walk *b)
     return a->number == b->number && a->digest == b->digest;
 }
 
+/* Whether a step frees the communicator: behind it there are no more, as at an end. */
+static int frees(struct rvmc_step step)
+{
+    const char *name = step.what ? rvmc_called(step) : "";
+
+    return !strcmp(name, "MPI_Comm_free") || !strcmp(name, "MPI_Comm_disconnect");
+}
+
 static struct difference none_of(MPI_Comm c, int other)
 {
     return (struct difference){.communicator = c, .made = rvmc_orders[c].made, .other = other};
 }
 
-/* The first call that differs, of two orders that are the same before. */
+/* The first call that differs, of two orders that are the same before. Who frees the communicator has left it out. */
 static void first_of(struct difference *d, const struct walk *me, const struct walk *they)
 {
+    const struct rvmc_step none = {0, 0};
+
     d->my_number = d->their_number = me->number + 1;
     d->mine = step_at(me, me->number + 1);
     d->theirs = step_at(they, me->number + 1);
+    if (frees(d->mine) && !frees(d->theirs) && d->theirs.what)
+        d->mine = none;
+    if (frees(d->theirs) && !frees(d->mine) && d->mine.what)
+        d->theirs = none;
     d->kind = d->mine.what && d->theirs.what ? OTHERS : LEFT_OUT;
 }
 
@@ -385,6 +401,13 @@ static void tell(const struct difference *d)
     rvmc_put("\n");
 }
 
+/* At MPI_Finalize no rank is in the call any more. */
+static void tell_unheeded(void)
+{
+    unheeded.they_are = unheeded.i_am = 0;
+    tell(&unheeded);
+}
+
 /* What the handler of the communicator makes of it: what the call returns, or 0 for what is told and traps. */
 static int told(const struct difference *d)
 {
@@ -392,10 +415,12 @@ static int told(const struct difference *d)
     int error = d->kind != OTHERS || differs >> CALL_BITS ? MPI_ERR_OTHER : differs >> 8 ? MPI_ERR_ROOT : MPI_ERR_OP;
     int answer = rvmc_handled(d->communicator, error);
 
-    if (!answer)
+    if (!answer) {
         tell(d);
-    else if (!unheeded.kind)
+    } else if (!rvmc_unheeded) {
         unheeded = *d;
+        rvmc_unheeded = tell_unheeded;
+    }
     return answer;
 }
 
@@ -535,9 +560,10 @@ static int told_at_last(const struct difference *d)
 
 void rvmc_end_orders(void)
 {
-    unheeded.they_are = unheeded.i_am = 0;
-    if (unheeded.kind)
-        rvmc_trapped(told_at_last(&unheeded));
+    if (rvmc_unheeded) {
+        rvmc_unheeded();
+        rvmc_trapped(0);
+    }
     for (MPI_Comm c = 0; c < RVMC_COMMUNICATORS; c++) {
         const struct rvmc_communicator *of = rvmc_known(c);
 

@@ -41,6 +41,9 @@ void rvmc_order_starts(MPI_Comm c, int number);
 /* A communicator is freed by a call. Returns the call's error. */
 int rvmc_order_ends(const char *call, MPI_Comm c, const void *place);
 
+/* What tells of the first difference that an error handler returned, of calls or of their data; or 0. */
+extern void (*rvmc_unheeded)(void);
+
 /* At MPI_Finalize, and where a rank ends without it; rvmc-cc links these with a program that has collectives. */
 void rvmc_end_orders(void);
 void rvmc_leave(int code) __attribute__((noreturn));

@@ -5,7 +5,7 @@
 #include <stdio.h>
 #include <stdlib.h>
 
-enum { RIGHT = 1, IN_PLACE = 2, RETURNED = 4, ABORTED = 8, LEFT_OUT = 16 };
+enum { RIGHT = 1, IN_PLACE = 2, RETURNED = 4, ABORTED = 8, LEFT_OUT = 16, TWIN = 32 };
 enum { BLOCKING, NONBLOCKING, PERSISTENT };
 enum { MOST = 8, SIZE = 0, MODE, FIRST, SECOND = FIRST + MOST };
 
@@ -85,7 +85,7 @@ int main(int argc, char **argv)
         right(group, ranks / size);
     else if (mode & LEFT_OUT && me == size - 1)
         both(given[2 + FIRST + group], -1);
-    else if (me % 2 == 0 && !(mode & LEFT_OUT))
+    else if ((me % 2 == 0 || mode & TWIN) && !(mode & LEFT_OUT))
         both(given[2 + FIRST + group], given[2 + SECOND + group]);
     else if (!(mode & LEFT_OUT))
         both(given[2 + SECOND + group], given[2 + FIRST + group]);
